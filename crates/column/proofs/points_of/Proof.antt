@@ -1,0 +1,68 @@
+-- The points of a Vandermonde matrix, one at a time.
+use mathlib.Core.Path.{_≡_, refl}
+use Prim.Native.Nat.{ℕ, _-_, _≤_, _<_}
+use native.Mathlib.Omega.{arith}
+use lib.ListN.{length, length-set}
+use Rattle.lists.proofs.Stores.{stored-more}
+use Rattle.column.specs.Solving.{mostEntries, element, cell}
+use borrow.Author.Needs.{needs}
+use Rattle.column.proofs.points_of.Statement.{statement}
+use Rattle.column.proofs.points_of.Tie as tie
+use Rattle.column.proofs.points_of.Reads as reads
+use Rattle.column.proofs.points_of.Lts as lts
+
+abbrev Inv-loop : tie.InvT-loop
+Inv-loop r powers points₀ j₀ points j =
+    (j ≤ r) × (length points ≡ mostEntries) × ((k : ℕ) → k < j → element points k ≡ cell powers k 1)
+
+abbrev μ-loop : tie.MeasureT-loop
+μ-loop r powers points₀ j₀ points j = r - j
+
+loop-holds : tie.Need-loop-holds Inv-loop μ-loop
+loop-holds c = (search needs, search needs, λ k h. absurd (omega arith))
+
+mul-points : tie.Need-mul-points Inv-loop μ-loop
+mul-points c = search needs
+
+index-1-points : tie.Need-index-1-points Inv-loop μ-loop
+index-1-points c = search needs
+
+index-2-points : tie.Need-index-2-points Inv-loop μ-loop
+index-2-points c = search needs
+
+mul-points-2 : tie.Need-mul-points-2 Inv-loop μ-loop
+mul-points-2 c = search needs
+
+array-write-points : tie.Need-array-write-points Inv-loop μ-loop
+array-write-points c = search needs
+
+add-j : tie.Need-add-j Inv-loop μ-loop
+add-j c = search needs
+
+loop-less : tie.Need-loop-less Inv-loop μ-loop
+loop-less c = search needs
+
+loop-again : tie.Need-loop-again Inv-loop μ-loop
+loop-again c =
+    let l = c .before .before .loop in
+    (search needs, simp length-set (l .inv .1), stored-more (λ k x. x ≡ cell (c .before .before .before .args .t2) k 1) (l .points) (l .j) _ 0 (omega arith) (l .inv .2) refl)
+
+returns : tie.Need-returns Inv-loop μ-loop
+returns c = λ j h. c .before .loop .inv .2 j (omega arith)
+
+pub points-of-spec : {M : Type 1} → statement M
+points-of-spec =
+    tie.close
+    (tie.spec
+    Inv-loop
+    μ-loop
+    loop-holds
+    mul-points
+    index-1-points
+    index-2-points
+    mul-points-2
+    array-write-points
+    add-j
+    loop-less
+    loop-again
+    returns)

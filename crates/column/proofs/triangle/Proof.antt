@@ -1,0 +1,75 @@
+-- The triangle, a row for each unknown.
+use mathlib.Core.Path.{_≡_}
+use mathlib.Core.List.{List, []}
+use Prim.Native.Nat.{ℕ, _-_, _≤_, _<_}
+use native.Mathlib.Omega.{arith}
+use lib.ListN.{length, getD, length-set}
+use Rattle.lists.proofs.Stores.{stored-more}
+use Rattle.column.specs.Solving.{mostEntries, element, cell, eliminated}
+use borrow.Author.Needs.{needs}
+use Rattle.column.proofs.triangle.Statement.{statement}
+use Rattle.column.proofs.triangle.Tie as tie
+use Rattle.column.proofs.triangle.Reads as reads
+use Rattle.column.proofs.triangle.Lts as lts
+use Rattle.column.proofs.eliminated.Reads as eliminated-reads
+
+-- what row k of the triangle is
+abbrev Row : ℕ → ℕ → List ℕ → List (List ℕ) → ℕ → List ℕ → Type 0
+Row q r points powers k row = (i : ℕ) → i < r → element row i ≡ eliminated q (element points) i (cell powers k) 0
+
+abbrev Inv-loop : tie.InvT-loop
+Inv-loop q r points powers out₀ j₀ out j =
+    (j ≤ r) × (length out ≡ mostEntries) × ((k : ℕ) → k < j → Row q r points powers k (getD out k []))
+
+abbrev μ-loop : tie.MeasureT-loop
+μ-loop q r points powers out₀ j₀ out j = r - j
+
+loop-holds : tie.Need-loop-holds Inv-loop μ-loop
+loop-holds c = (search needs, search needs, λ k h. absurd (omega arith))
+
+mul-eliminated : tie.Need-mul-eliminated Inv-loop μ-loop
+mul-eliminated c = search needs
+
+array-copy-out-eliminated : tie.Need-array-copy-out-eliminated Inv-loop μ-loop
+array-copy-out-eliminated c = search needs
+
+eliminated-requires : tie.Need-eliminated-requires Inv-loop μ-loop
+eliminated-requires c κs = search needs
+
+mul-out : tie.Need-mul-out Inv-loop μ-loop
+mul-out c = search needs
+
+array-set-from-out : tie.Need-array-set-from-out Inv-loop μ-loop
+array-set-from-out c = search needs
+
+add-j : tie.Need-add-j Inv-loop μ-loop
+add-j c = search needs
+
+loop-less : tie.Need-loop-less Inv-loop μ-loop
+loop-less c = search needs
+
+loop-again : tie.Need-loop-again Inv-loop μ-loop
+loop-again c =
+    let l = c .before .before .before .loop in
+    let s = c .before .before .before .before .args in
+    (search needs, simp length-set (l .inv .1), stored-more (Row (s .q) (s .r) (s .points) (s .t4)) (l .out) (l .j) _ [] (omega arith) (l .inv .2) (c .eliminated .ensures))
+
+returns : tie.Need-returns Inv-loop μ-loop
+returns c = λ j i h k. c .before .loop .inv .2 j (omega arith) i k
+
+pub triangle-spec : {M : Type 1} → statement M
+triangle-spec =
+    tie.close
+    (tie.spec
+    Inv-loop
+    μ-loop
+    loop-holds
+    mul-eliminated
+    array-copy-out-eliminated
+    eliminated-requires
+    mul-out
+    array-set-from-out
+    add-j
+    loop-less
+    loop-again
+    returns)

@@ -1,0 +1,78 @@
+-- Solving r equations in r unknowns: what is promised of `solve` and `complete`, and of the steps inside them.
+use mathlib.Core.Path.{_≡_}
+use mathlib.Core.Bool.{true}
+use mathlib.Core.List.{List, []}
+use Prim.Native.Nat.{ℕ, zero, suc, _+_, _*_, _-_, _%_, _^_, _<_, _≤_}
+use lib.ListN.{length, getD, take}
+use Rattle.lists.specs.Lists.{rising}
+use Rattle.lists.specs.Sums.{sum}
+use Rattle.field.specs.Residues.{Prime, minus, solution}
+use Rattle.column.specs.declared.Outcome.{Outcome}
+use Rattle.column.specs.declared.Outcome.the-variants.{Solved, ZeroDivisor}
+use Rattle.column.specs.declared.Solution.{Solution}
+use Rattle.column.specs.Column.{Points, completed}
+
+-- the most entries of a column: n + 1 of a first step
+abbrev pub mostEntries : ℕ
+mostEntries = 13
+
+-- element t of a list
+abbrev pub element : List ℕ → ℕ → ℕ
+element xs t = getD xs t 0
+
+-- element t of row j of an array of arrays
+abbrev pub cell : List (List ℕ) → ℕ → ℕ → ℕ
+cell rows j t = getD (getD rows j []) t 0
+
+-- the t-th power of x, modulo q
+abbrev pub powerOf : ℕ → ℕ → ℕ → ℕ
+powerOf q x t = x ^ t % q
+
+-- the powers of the points: "The Vandermonde equations as an array of arrays", a row for each unknown, in it its factor in each equation
+pub record Vandermonde (q : ℕ) (points : List ℕ) (powers : List (List ℕ)) : Type 0 where
+  pub power : (j t : ℕ) → j < length points → t < length points → cell powers j t ≡ powerOf q (element points j) t
+
+-- the Vandermonde equations of distinct points are solved, and the values are the solution
+pub record Solves (q r : ℕ) (powers : List (List ℕ)) (right : List ℕ) (s : Solution) : Type 0 where
+  pub solved : (points : List ℕ) → length points ≡ r → Prime q → Points q points → Vandermonde q points powers
+      → (s .outcome ≡ Solved) × (take r (s .values) ≡ solution q points (element right))
+
+-- what `complete` is given: a prime, distinct points, a rising list of entries and a value for each of them
+pub record Completable (q : ℕ) (points list values column : List ℕ) : Type 0 where
+  pub prime : Prime q
+  pub few : length points ≤ mostEntries
+  pub apart : Points q points
+  pub up : rising 0 (length points) list ≡ true
+  pub each : length values ≡ length list
+  pub room : length column ≡ length points
+
+-- no zero divisor, and the whole column
+pub record Completes (q : ℕ) (points list values column : List ℕ) (outcome : Outcome) : Type 0 where
+  pub never : outcome ≡ Solved
+  pub whole : column ≡ completed q points list (element values)
+
+-- ---- the steps inside
+
+-- each equation less x times the one before it, numbered from 0 again
+unfoldable pub less : ℕ → ℕ → (ℕ → ℕ) → ℕ → ℕ
+less q x side t = minus q (side (t + 1)) (x * side t)
+
+-- a side of the equations after i points are eliminated
+unfoldable pub eliminated : ℕ → (ℕ → ℕ) → ℕ → (ℕ → ℕ) → ℕ → ℕ
+eliminated q points zero side = side
+eliminated q points (suc i) side = less q (points i) (eliminated q points i side)
+
+-- the term of the d-th unknown from `start` on, in equation i
+unfoldable pub term : List (List ℕ) → List ℕ → ℕ → ℕ → ℕ → ℕ
+term triangle values i start d = cell triangle (start + d) i * element values (start + d)
+
+-- value i is below the modulus, and meets equation i of those of which equation i has the unknowns from i on
+pub record Meets (q r : ℕ) (triangle : List (List ℕ)) (right values : List ℕ) (i : ℕ) : Type 0 where
+  pub small : element values i < q
+  pub met : sum (r - i) (term triangle values i i) % q ≡ element right i % q
+
+-- back substitution in such equations
+pub record Substituted (q r : ℕ) (triangle : List (List ℕ)) (right : List ℕ) (s : Solution) : Type 0 where
+  pub long : length (s .values) ≡ mostEntries
+  pub stopped : s .outcome ≡ ZeroDivisor → (i : ℕ) × (i < r) × (cell triangle i i ≡ 0)
+  pub meets : Prime q → ((i : ℕ) → i < r → cell triangle i i < q) → s .outcome ≡ Solved → (i : ℕ) → i < r → Meets q r triangle right (s .values) i
