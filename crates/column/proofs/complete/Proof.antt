@@ -6,7 +6,6 @@ use borrow.Author.Needs.{needs}
 use lib.ListN.{length, take, length-take}
 use Rattle.lists.specs.Lists.{others}
 use Rattle.lists.proofs.Others.{rising-fits}
-use Rattle.column.specs.Solving.{mostEntries, Scattered}
 use Rattle.column.proofs.Completing.{rest-length, rest-rising, whole-by}
 use Rattle.column.proofs.complete.Statement.{statement}
 use Rattle.column.proofs.complete.Tie as tie

@@ -1,18 +1,15 @@
 -- `column::eliminated` meets its contract. Assumes nothing.
-use mathlib.Core.Path.{_≡_, refl, sym, ap, _∙_}
+use mathlib.Core.Path.{_≡_, refl, sym, _∙_}
 use mathlib.Core.List.{List}
-use Prim.Native.Nat.{ℕ, _+_, _-_, _%_, _≤_, _<_}
+use Prim.Native.Nat.{ℕ, _+_, _-_, _≤_, _<_}
 use native.Mathlib.Omega.{arith}
-use lib.ListN.{length, getD, length-set}
+use lib.ListN.{length, length-set}
 use Rattle.lists.proofs.Stores.{stored-more}
 use Rattle.column.specs.Solving.{mostEntries, element, less, eliminated}
 use Rattle.column.proofs.Elimination.{less-ext, eliminated-more}
 use borrow.Author.Needs.{needs}
 use Rattle.column.proofs.eliminated.Statement.{statement}
 use Rattle.column.proofs.eliminated.Tie as tie
-use Rattle.column.proofs.eliminated.Reads as reads
-use Rattle.column.proofs.eliminated.Lts as lts
-use Rattle.column.proofs.less.Reads as less-reads
 
 -- equation i once the points before i are eliminated
 abbrev top : ℕ → List ℕ → List ℕ → ℕ → ℕ
@@ -29,36 +26,6 @@ abbrev μ-loop : tie.MeasureT-loop
 loop-holds : tie.Need-loop-holds Inv-loop μ-loop
 unfolding eliminated
 loop-holds c = (search needs, search needs, λ l h. absurd (omega arith), λ t h. refl)
-
-array-read-out : tie.Need-array-read-out Inv-loop μ-loop
-array-read-out c = search needs
-
-mul-out : tie.Need-mul-out Inv-loop μ-loop
-mul-out c = search needs
-
-array-write-out : tie.Need-array-write-out Inv-loop μ-loop
-array-write-out c = search needs
-
-sub-less : tie.Need-sub-less Inv-loop μ-loop
-sub-less c = search needs
-
-sub-less-2 : tie.Need-sub-less-2 Inv-loop μ-loop
-sub-less-2 c = search needs
-
-mul-less : tie.Need-mul-less Inv-loop μ-loop
-mul-less c = search needs
-
-array-read-less : tie.Need-array-read-less Inv-loop μ-loop
-array-read-less c = search needs
-
-less-requires : tie.Need-less-requires Inv-loop μ-loop
-less-requires c κs = search needs
-
-add-i : tie.Need-add-i Inv-loop μ-loop
-add-i c = search needs
-
-loop-less : tie.Need-loop-less Inv-loop μ-loop
-loop-less c = search needs
 
 loop-again : tie.Need-loop-again Inv-loop μ-loop
 loop-again c =
@@ -83,15 +50,15 @@ eliminated-spec =
     Inv-loop
     μ-loop
     loop-holds
-    array-read-out
-    mul-out
-    array-write-out
-    sub-less
-    sub-less-2
-    mul-less
-    array-read-less
-    less-requires
-    add-i
-    loop-less
+    (λ c. search needs)
+    (λ c. search needs)
+    (λ c. search needs)
+    (λ c. search needs)
+    (λ c. search needs)
+    (λ c. search needs)
+    (λ c. search needs)
+    (λ c κs. search needs)
+    (λ c. search needs)
+    (λ c. search needs)
     loop-again
     returns)

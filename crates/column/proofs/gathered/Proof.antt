@@ -1,18 +1,15 @@
 -- `column::gathered` meets its contract. Assumes nothing.
-use mathlib.Core.Path.{_≡_, refl, sym, ap, _∙_}
-use mathlib.Core.List.{List, []}
-use Prim.Native.Nat.{ℕ, _+_, _-_, _*_, _%_, _≤_, _<_}
+use mathlib.Core.Path.{_≡_, refl}
+use Prim.Native.Nat.{ℕ, _-_, _≤_, _<_}
 use native.Mathlib.Omega.{arith}
 use lib.ListN.{length, getD, length-set}
 use Rattle.lists.proofs.Stores.{stored-more}
-use Rattle.column.specs.Solving.{mostEntries, element, cell, powerOf}
+use Rattle.column.specs.Solving.{mostEntries, element}
 use Rattle.lists.proofs.Members.{rising-below}
 use Rattle.lists.proofs.Others.{rising-fits}
 use borrow.Author.Needs.{needs}
 use Rattle.column.proofs.gathered.Statement.{statement}
 use Rattle.column.proofs.gathered.Tie as tie
-use Rattle.column.proofs.gathered.Reads as reads
-use Rattle.column.proofs.gathered.Lts as lts
 
 abbrev Inv-loop : tie.InvT-loop
 Inv-loop points list out₀ j₀ j-end out j =
@@ -31,29 +28,14 @@ target c = rising-below _ _ (c .before .before .pre .1) (c .before .loop .j) (om
 room : (c : tie.In-loop Inv-loop μ-loop) → length (c .before .before .args .list .now) ≤ length (c .before .before .args .points .now)
 room c = rising-fits _ _ (c .before .before .pre .1)
 
-mul-out : tie.Need-mul-out Inv-loop μ-loop
-mul-out c = search needs
-
-shared-slice-read-out : tie.Need-shared-slice-read-out Inv-loop μ-loop
-shared-slice-read-out c = search needs
-
 mul-out-2 : tie.Need-mul-out-2 Inv-loop μ-loop
 mul-out-2 c = omega (arith, target (c .before))
 
 shared-slice-read-out-2 : tie.Need-shared-slice-read-out-2 Inv-loop μ-loop
 shared-slice-read-out-2 c = target (c .before .before)
 
-mul-out-3 : tie.Need-mul-out-3 Inv-loop μ-loop
-mul-out-3 c = search needs
-
 array-write-out : tie.Need-array-write-out Inv-loop μ-loop
 array-write-out c = omega (arith, room (c .before .before))
-
-add-j : tie.Need-add-j Inv-loop μ-loop
-add-j c = search needs
-
-loop-less : tie.Need-loop-less Inv-loop μ-loop
-loop-less c = search needs
 
 loop-again : tie.Need-loop-again Inv-loop μ-loop
 loop-again c =
@@ -76,13 +58,13 @@ gathered-spec =
     Inv-loop
     μ-loop
     loop-holds
-    mul-out
-    shared-slice-read-out
+    (λ c. search needs)
+    (λ c. search needs)
     mul-out-2
     shared-slice-read-out-2
-    mul-out-3
+    (λ c. search needs)
     array-write-out
-    add-j
-    loop-less
+    (λ c. search needs)
+    (λ c. search needs)
     loop-again
     returns)

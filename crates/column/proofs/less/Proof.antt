@@ -1,9 +1,9 @@
 -- One point eliminated from a side of the equations, an equation at a time.
-use mathlib.Core.Path.{_≡_, sym, ap, _∙_}
-use Prim.Native.Nat.{ℕ, _+_, _*_, _-_, _≤_, _<_}
+use mathlib.Core.Path.{_≡_, ap, _∙_}
+use Prim.Native.Nat.{ℕ, _+_, _-_, _≤_, _<_}
 use native.Mathlib.Omega.{arith}
 use borrow.Author.Needs.{needs}
-use lib.ListN.{length, getD, length-set}
+use lib.ListN.{length, length-set}
 use Rattle.lists.proofs.Stores.{stored-more}
 use Rattle.field.specs.Residues.{minus}
 use Rattle.field.proofs.Bridge.{minus-mod}

@@ -1,10 +1,9 @@
 -- The values at the other entries: the Vandermonde equations of their points, with what the known values lack on the right.
-use mathlib.Core.Path.{_≡_, sym, ap, _∙_}
+use mathlib.Core.Path.{ap, _∙_}
 use Prim.Native.Nat.{_≤_, _<_}
 use native.Mathlib.Omega.{arith}
 use borrow.Author.Needs.{needs}
 use lib.ListN.{length}
-use Rattle.lists.specs.Lists.{others}
 use Rattle.lists.proofs.Others.{others-length}
 use Rattle.column.specs.Solving.{mostEntries, element}
 use Rattle.column.proofs.Completing.{rest-rising, missing-by}

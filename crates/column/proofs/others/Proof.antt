@@ -1,7 +1,6 @@
 -- `column::others` meets its contract. Assumes nothing.
-use mathlib.Core.Path.{_≡_, refl, sym, ap, _∙_}
-use mathlib.Core.List.{List, []}
-use Prim.Native.Nat.{ℕ, _+_, _-_, _*_, _%_, _≤_, _<_}
+use mathlib.Core.Path.{_≡_, refl, ap, _∙_}
+use Prim.Native.Nat.{_+_, _-_, _≤_, _<_}
 use native.Mathlib.Omega.{arith}
 use lib.ListN.{length, getD, take, length-set}
 use mathlib.Core.Logic.{⊎-elim}
@@ -13,8 +12,6 @@ use Rattle.column.specs.Solving.{mostEntries}
 use borrow.Author.Needs.{needs}
 use Rattle.column.proofs.others.Statement.{statement}
 use Rattle.column.proofs.others.Tie as tie
-use Rattle.column.proofs.others.Reads as reads
-use Rattle.column.proofs.others.Lts as lts
 
 abbrev Inv-loop : tie.InvT-loop
 Inv-loop m list out₀ j₀ at₀ i₀ out j at i =
@@ -25,21 +22,6 @@ abbrev μ-loop : tie.MeasureT-loop
 
 loop-holds : tie.Need-loop-holds Inv-loop μ-loop
 loop-holds c = (search needs, search needs, search needs, along-none _, written-none _ _ _)
-
-mul-if2 : tie.Need-mul-if2 Inv-loop μ-loop
-mul-if2 c = search needs
-
-shared-slice-read-if2 : tie.Need-shared-slice-read-if2 Inv-loop μ-loop
-shared-slice-read-if2 c = search needs
-
-add-j : tie.Need-add-j Inv-loop μ-loop
-add-j c = search needs
-
-add-i : tie.Need-add-i Inv-loop μ-loop
-add-i c = search needs
-
-loop-less : tie.Need-loop-less Inv-loop μ-loop
-loop-less c = search needs
 
 loop-again : tie.Need-loop-again Inv-loop μ-loop
 loop-again c =
@@ -53,21 +35,6 @@ loop-again c =
       along-hit _ _ up (l .i) (l .j) (l .inv .3) h (c .if2 .taken),
       written-skip _ _ (l .i) _ _ _ (l .inv .4) (hit-outside _ _ up (l .i) (l .j) (l .inv .3) h (c .if2 .taken)),
     )
-
-mul-out : tie.Need-mul-out Inv-loop μ-loop
-mul-out c = search needs
-
-array-write-out : tie.Need-array-write-out Inv-loop μ-loop
-array-write-out c = search needs
-
-add-at : tie.Need-add-at Inv-loop μ-loop
-add-at c = search needs
-
-add-i-2 : tie.Need-add-i-2 Inv-loop μ-loop
-add-i-2 c = search needs
-
-loop-less-2 : tie.Need-loop-less-2 Inv-loop μ-loop
-loop-less-2 c = search needs
 
 loop-again-2 : tie.Need-loop-again-2 Inv-loop μ-loop
 loop-again-2 c =
@@ -99,16 +66,16 @@ others-spec =
     Inv-loop
     μ-loop
     loop-holds
-    mul-if2
-    shared-slice-read-if2
-    add-j
-    add-i
-    loop-less
+    (λ c. search needs)
+    (λ c. search needs)
+    (λ c. search needs)
+    (λ c. search needs)
+    (λ c. search needs)
     loop-again
-    mul-out
-    array-write-out
-    add-at
-    add-i-2
-    loop-less-2
+    (λ c. search needs)
+    (λ c. search needs)
+    (λ c. search needs)
+    (λ c. search needs)
+    (λ c. search needs)
     loop-again-2
     returns)

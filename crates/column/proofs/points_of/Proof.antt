@@ -8,8 +8,6 @@ use Rattle.column.specs.Solving.{mostEntries, element, cell}
 use borrow.Author.Needs.{needs}
 use Rattle.column.proofs.points_of.Statement.{statement}
 use Rattle.column.proofs.points_of.Tie as tie
-use Rattle.column.proofs.points_of.Reads as reads
-use Rattle.column.proofs.points_of.Lts as lts
 
 abbrev Inv-loop : tie.InvT-loop
 Inv-loop r powers points₀ j₀ points j =
@@ -20,27 +18,6 @@ abbrev μ-loop : tie.MeasureT-loop
 
 loop-holds : tie.Need-loop-holds Inv-loop μ-loop
 loop-holds c = (search needs, search needs, λ k h. absurd (omega arith))
-
-mul-points : tie.Need-mul-points Inv-loop μ-loop
-mul-points c = search needs
-
-index-1-points : tie.Need-index-1-points Inv-loop μ-loop
-index-1-points c = search needs
-
-index-2-points : tie.Need-index-2-points Inv-loop μ-loop
-index-2-points c = search needs
-
-mul-points-2 : tie.Need-mul-points-2 Inv-loop μ-loop
-mul-points-2 c = search needs
-
-array-write-points : tie.Need-array-write-points Inv-loop μ-loop
-array-write-points c = search needs
-
-add-j : tie.Need-add-j Inv-loop μ-loop
-add-j c = search needs
-
-loop-less : tie.Need-loop-less Inv-loop μ-loop
-loop-less c = search needs
 
 loop-again : tie.Need-loop-again Inv-loop μ-loop
 loop-again c =
@@ -57,12 +34,12 @@ points-of-spec =
     Inv-loop
     μ-loop
     loop-holds
-    mul-points
-    index-1-points
-    index-2-points
-    mul-points-2
-    array-write-points
-    add-j
-    loop-less
+    (λ c. search needs)
+    (λ c. search needs)
+    (λ c. search needs)
+    (λ c. search needs)
+    (λ c. search needs)
+    (λ c. search needs)
+    (λ c. search needs)
     loop-again
     returns)

@@ -12,10 +12,6 @@ use Rattle.column.specs.Solving.{mostEntries, element, term}
 use borrow.Author.Needs.{needs}
 use Rattle.column.proofs.right_side.Statement.{statement}
 use Rattle.column.proofs.right_side.Tie as tie
-use Rattle.column.proofs.right_side.Reads as reads
-use Rattle.column.proofs.right_side.Lts as lts
-use Rattle.column.proofs.part_of.Reads as part-of-reads
-use Rattle.field.proofs.subtract.Reads as subtract-reads
 
 -- the right side of equation t
 abbrev lacking : ℕ → List (List ℕ) → List ℕ → ℕ → ℕ
@@ -30,24 +26,6 @@ abbrev μ-loop : tie.MeasureT-loop
 
 loop-holds : tie.Need-loop-holds Inv-loop μ-loop
 loop-holds c = (search needs, search needs, λ u h. absurd (omega arith))
-
-part-of-requires : tie.Need-part-of-requires Inv-loop μ-loop
-part-of-requires c κs = search needs
-
-subtract-requires : tie.Need-subtract-requires Inv-loop μ-loop
-subtract-requires c κs = search needs
-
-mul-out : tie.Need-mul-out Inv-loop μ-loop
-mul-out c = search needs
-
-array-write-out : tie.Need-array-write-out Inv-loop μ-loop
-array-write-out c = search needs
-
-add-t : tie.Need-add-t Inv-loop μ-loop
-add-t c = search needs
-
-loop-less : tie.Need-loop-less Inv-loop μ-loop
-loop-less c = search needs
 
 loop-again : tie.Need-loop-again Inv-loop μ-loop
 loop-again c =
@@ -69,11 +47,11 @@ right-side-spec =
     Inv-loop
     μ-loop
     loop-holds
-    part-of-requires
-    subtract-requires
-    mul-out
-    array-write-out
-    add-t
-    loop-less
+    (λ c κs. search needs)
+    (λ c κs. search needs)
+    (λ c. search needs)
+    (λ c. search needs)
+    (λ c. search needs)
+    (λ c. search needs)
     loop-again
     returns)

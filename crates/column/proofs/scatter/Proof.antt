@@ -1,7 +1,6 @@
 -- `column::scatter` meets its contract. Assumes nothing.
-use mathlib.Core.Path.{_≡_, refl, sym, ap, _∙_}
-use mathlib.Core.List.{List, []}
-use Prim.Native.Nat.{ℕ, _+_, _-_, _*_, _%_, _≤_, _<_}
+use mathlib.Core.Path.{_≡_, refl}
+use Prim.Native.Nat.{ℕ, _-_, _≤_, _<_}
 use native.Mathlib.Omega.{arith}
 use lib.ListN.{length, getD, length-set}
 use mathlib.Core.Bool.{false}
@@ -12,8 +11,6 @@ use Rattle.column.specs.Solving.{element}
 use borrow.Author.Needs.{needs}
 use Rattle.column.proofs.scatter.Statement.{statement}
 use Rattle.column.proofs.scatter.Tie as tie
-use Rattle.column.proofs.scatter.Reads as reads
-use Rattle.column.proofs.scatter.Lts as lts
 
 abbrev Inv-loop : tie.InvT-loop
 Inv-loop list values column₀ j₀ j-end column j =
@@ -31,29 +28,11 @@ target : (c : tie.In-loop Inv-loop μ-loop) →
     getD (c .before .before .args .list .now) (c .before .loop .j) 0 < length (c .before .loop .column)
 target c = omega (arith, rising-below _ _ (c .before .before .pre .1) (c .before .loop .j) (omega arith))
 
-mul-column : tie.Need-mul-column Inv-loop μ-loop
-mul-column c = search needs
-
-shared-slice-read-column : tie.Need-shared-slice-read-column Inv-loop μ-loop
-shared-slice-read-column c = search needs
-
-mul-column-2 : tie.Need-mul-column-2 Inv-loop μ-loop
-mul-column-2 c = search needs
-
-shared-slice-read-column-2 : tie.Need-shared-slice-read-column-2 Inv-loop μ-loop
-shared-slice-read-column-2 c = search needs
-
 mul-column-3 : tie.Need-mul-column-3 Inv-loop μ-loop
 mul-column-3 c = omega (arith, target (c .before .before))
 
 slice-write-column : tie.Need-slice-write-column Inv-loop μ-loop
 slice-write-column c = target (c .before .before)
-
-add-j : tie.Need-add-j Inv-loop μ-loop
-add-j c = search needs
-
-loop-less : tie.Need-loop-less Inv-loop μ-loop
-loop-less c = search needs
 
 loop-again : tie.Need-loop-again Inv-loop μ-loop
 loop-again c =
@@ -69,9 +48,6 @@ loop-again c =
       unlisted-more _ (s .list .now) (s .values .now) up (s .column .now) (l .column) (l .j) _ h room (l .inv .4),
     )
 
-same-length : tie.Need-same-length Inv-loop μ-loop
-same-length c = search needs
-
 returns : tie.Need-returns Inv-loop μ-loop
 returns c =
     let l = c .before .loop in
@@ -84,14 +60,14 @@ scatter-spec =
     Inv-loop
     μ-loop
     loop-holds
-    mul-column
-    shared-slice-read-column
-    mul-column-2
-    shared-slice-read-column-2
+    (λ c. search needs)
+    (λ c. search needs)
+    (λ c. search needs)
+    (λ c. search needs)
     mul-column-3
     slice-write-column
-    add-j
-    loop-less
+    (λ c. search needs)
+    (λ c. search needs)
     loop-again
-    same-length
+    (λ c. search needs)
     returns)

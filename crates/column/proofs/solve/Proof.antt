@@ -1,19 +1,8 @@
 -- Solving the Vandermonde equations: the triangle has no zero on its diagonal, and the values that meet it are the solution.
-use mathlib.Core.Path.{_≡_, refl, sym, ap, _∙_}
-use mathlib.Core.List.{List}
-use Prim.Native.Nat.{ℕ, zero, suc, _+_, _-_, _*_, _%_, _<_}
-use native.Mathlib.Omega.{arith}
+use Prim.Native.Nat.{zero}
 use borrow.Author.Needs.{needs}
-use lib.ListN.{length, getD, take, length-take}
-use lib.Seq.{getD-take}
-use Rattle.lists.specs.Sums.{sum}
-use Rattle.lists.proofs.Sums.{sum-ext}
-use Rattle.field.specs.Residues.{Prime, solution}
-use Rattle.column.specs.Column.{Points}
-use Rattle.column.specs.Solving.{mostEntries, element, cell, powerOf, eliminated, term, Vandermonde, Substituted, Solves}
-use Rattle.column.specs.declared.Outcome.{Outcome}
-use Rattle.column.specs.declared.Outcome.the-variants.{Solved, ZeroDivisor}
-use Rattle.column.specs.declared.Solution.{Solution}
+use Rattle.field.specs.Residues.{solution}
+use Rattle.column.specs.Solving.{eliminated, Vandermonde}
 use Rattle.column.proofs.Assembled.{solved-by}
 use Rattle.column.proofs.solve.Statement.{statement}
 use Rattle.column.proofs.solve.Tie as tie

@@ -1,23 +1,16 @@
 -- `column::substituted` meets its contract. Assumes nothing.
-use mathlib.Core.Path.{_≡_, refl, sym, ap, _∙_}
+use mathlib.Core.Path.{_≡_, sym, ap, _∙_}
 use mathlib.Core.List.{List}
-use Prim.Native.Nat.{ℕ, _+_, _-_, _%_, _≤_, _<_}
+use Prim.Native.Nat.{ℕ, _-_, _≤_, _<_}
 use native.Mathlib.Omega.{arith}
-use lib.ListN.{length, getD, length-set}
-use Rattle.lists.specs.Sums.{sum}
+use lib.ListN.{length, length-set}
 use Rattle.field.specs.Residues.{Prime, minus}
-use Rattle.column.specs.Solving.{mostEntries, element, cell, term, Meets}
+use Rattle.column.specs.Solving.{mostEntries, element, cell, Meets}
 use Rattle.column.specs.declared.Outcome.the-variants.{Solved, ZeroDivisor}
 use Rattle.column.proofs.Substitution.{divided-back, value-more}
 use borrow.Author.Needs.{needs}
 use Rattle.column.proofs.substituted.Statement.{statement}
 use Rattle.column.proofs.substituted.Tie as tie
-use Rattle.column.proofs.substituted.Reads as reads
-use Rattle.column.proofs.substituted.Lts as lts
-use Rattle.column.proofs.part_of.Reads as part-of-reads
-use Rattle.field.proofs.inverse.Reads as inverse-reads
-use Rattle.field.proofs.multiply.Reads as multiply-reads
-use Rattle.field.proofs.subtract.Reads as subtract-reads
 
 -- the diagonal is below the modulus
 abbrev Diagonal : ℕ → ℕ → List (List ℕ) → Type 0
@@ -36,66 +29,12 @@ abbrev μ-loop : tie.MeasureT-loop
 loop-holds : tie.Need-loop-holds Inv-loop μ-loop
 loop-holds c = (search needs, search needs, λ p d l h k. absurd (omega arith))
 
-sub-i : tie.Need-sub-i Inv-loop μ-loop
-sub-i c = search needs
-
-mul-pivot : tie.Need-mul-pivot Inv-loop μ-loop
-mul-pivot c = search needs
-
-mul-pivot-2 : tie.Need-mul-pivot-2 Inv-loop μ-loop
-mul-pivot-2 c = search needs
-
-index-1-pivot : tie.Need-index-1-pivot Inv-loop μ-loop
-index-1-pivot c = search needs
-
-index-2-pivot : tie.Need-index-2-pivot Inv-loop μ-loop
-index-2-pivot c = search needs
-
 returns : tie.Need-returns Inv-loop μ-loop
 returns c = record {
   long = c .before .before .before .loop .inv .1;
   stopped = λ e. (c .before .before .before .loop .i - 1, omega arith, c .if1 .taken);
   meets = λ p d e. absurd (never e);
 }
-
-mul-subtract : tie.Need-mul-subtract Inv-loop μ-loop
-mul-subtract c = search needs
-
-array-read-subtract : tie.Need-array-read-subtract Inv-loop μ-loop
-array-read-subtract c = search needs
-
-add-part-of : tie.Need-add-part-of Inv-loop μ-loop
-add-part-of c = search needs
-
-sub-part-of : tie.Need-sub-part-of Inv-loop μ-loop
-sub-part-of c = search needs
-
-sub-part-of-2 : tie.Need-sub-part-of-2 Inv-loop μ-loop
-sub-part-of-2 c = search needs
-
-slice-aggregate-part-of : tie.Need-slice-aggregate-part-of Inv-loop μ-loop
-slice-aggregate-part-of c = search needs
-
-part-of-requires : tie.Need-part-of-requires Inv-loop μ-loop
-part-of-requires c κs = search needs
-
-subtract-requires : tie.Need-subtract-requires Inv-loop μ-loop
-subtract-requires c κs = search needs
-
-inverse-requires : tie.Need-inverse-requires Inv-loop μ-loop
-inverse-requires c κs = search needs
-
-multiply-requires : tie.Need-multiply-requires Inv-loop μ-loop
-multiply-requires c κs = search needs
-
-mul-values : tie.Need-mul-values Inv-loop μ-loop
-mul-values c = search needs
-
-array-write-values : tie.Need-array-write-values Inv-loop μ-loop
-array-write-values c = search needs
-
-loop-less : tie.Need-loop-less Inv-loop μ-loop
-loop-less c = search needs
 
 loop-again : tie.Need-loop-again Inv-loop μ-loop
 loop-again c =
@@ -127,24 +66,24 @@ substituted-spec =
     Inv-loop
     μ-loop
     loop-holds
-    sub-i
-    mul-pivot
-    mul-pivot-2
-    index-1-pivot
-    index-2-pivot
+    (λ c. search needs)
+    (λ c. search needs)
+    (λ c. search needs)
+    (λ c. search needs)
+    (λ c. search needs)
     returns
-    mul-subtract
-    array-read-subtract
-    add-part-of
-    sub-part-of
-    sub-part-of-2
-    slice-aggregate-part-of
-    part-of-requires
-    subtract-requires
-    inverse-requires
-    multiply-requires
-    mul-values
-    array-write-values
-    loop-less
+    (λ c. search needs)
+    (λ c. search needs)
+    (λ c. search needs)
+    (λ c. search needs)
+    (λ c. search needs)
+    (λ c. search needs)
+    (λ c κs. search needs)
+    (λ c κs. search needs)
+    (λ c κs. search needs)
+    (λ c κs. search needs)
+    (λ c. search needs)
+    (λ c. search needs)
+    (λ c. search needs)
     loop-again
     returns-2)

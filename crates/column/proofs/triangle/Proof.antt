@@ -9,9 +9,6 @@ use Rattle.column.specs.Solving.{mostEntries, element, cell, eliminated}
 use borrow.Author.Needs.{needs}
 use Rattle.column.proofs.triangle.Statement.{statement}
 use Rattle.column.proofs.triangle.Tie as tie
-use Rattle.column.proofs.triangle.Reads as reads
-use Rattle.column.proofs.triangle.Lts as lts
-use Rattle.column.proofs.eliminated.Reads as eliminated-reads
 
 -- what row k of the triangle is
 abbrev Row : ℕ → ℕ → List ℕ → List (List ℕ) → ℕ → List ℕ → Type 0
@@ -26,27 +23,6 @@ abbrev μ-loop : tie.MeasureT-loop
 
 loop-holds : tie.Need-loop-holds Inv-loop μ-loop
 loop-holds c = (search needs, search needs, λ k h. absurd (omega arith))
-
-mul-eliminated : tie.Need-mul-eliminated Inv-loop μ-loop
-mul-eliminated c = search needs
-
-array-copy-out-eliminated : tie.Need-array-copy-out-eliminated Inv-loop μ-loop
-array-copy-out-eliminated c = search needs
-
-eliminated-requires : tie.Need-eliminated-requires Inv-loop μ-loop
-eliminated-requires c κs = search needs
-
-mul-out : tie.Need-mul-out Inv-loop μ-loop
-mul-out c = search needs
-
-array-set-from-out : tie.Need-array-set-from-out Inv-loop μ-loop
-array-set-from-out c = search needs
-
-add-j : tie.Need-add-j Inv-loop μ-loop
-add-j c = search needs
-
-loop-less : tie.Need-loop-less Inv-loop μ-loop
-loop-less c = search needs
 
 loop-again : tie.Need-loop-again Inv-loop μ-loop
 loop-again c =
@@ -64,12 +40,12 @@ triangle-spec =
     Inv-loop
     μ-loop
     loop-holds
-    mul-eliminated
-    array-copy-out-eliminated
-    eliminated-requires
-    mul-out
-    array-set-from-out
-    add-j
-    loop-less
+    (λ c. search needs)
+    (λ c. search needs)
+    (λ c κs. search needs)
+    (λ c. search needs)
+    (λ c. search needs)
+    (λ c. search needs)
+    (λ c. search needs)
     loop-again
     returns)

@@ -1,0 +1,2 @@
+-- Points at equal distances differ.
+pub mod Apart

@@ -1,0 +1,2 @@
+-- The points of the test.
+pub mod Progression
