@@ -155,6 +155,14 @@ module _ (groups : ℕ) (bytes : List ℕ) (at : ℕ) where
     pub number-read : readNumber groups (drop at bytes) ≡ value v (drop next bytes)
     number-read = parts .0
 
+    pub number-inside : next ≤ length bytes
+    unfolding numberAt placed
+    number-inside = go (readNumber groups (drop at bytes)) e
+      where
+        go : (f : Found) → placed (length bytes) f ≡ Read v next → next ≤ length bytes
+        go malformed q = absurd (let z : _≡_ {A = ℕ} 0 1 = cc in omega arith)
+        go (value w rest) q = let e₂ : length bytes - length rest ≡ next = cc in omega arith
+
     -- a number of at most `most` groups fits in them
     pub number-fits : (most : ℕ) → groups ≤ most → ((i : ℕ) → getD bytes i 0 < byteValues) → v < groupValues ^ most
     number-fits most h small = omega (arith, parts .1 small, pow-le-pow-right {n = groupValues} (omega arith) {i = groups} {j = most} h)

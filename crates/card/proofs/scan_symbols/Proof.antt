@@ -1,0 +1,66 @@
+-- `card::scan_symbols` meets its contract: what turns back all symbols turns back those from number i on.
+use mathlib.Core.Path.{_≡_, sym, ap, _∙_}
+use Prim.Native.Nat.{_-_, _≤_}
+use native.Mathlib.Nat.{sub-zero}
+use borrow.Author.Needs.{needs}
+use lib.ListN.{drop}
+use Rattle.card.specs.Cards.{symbolsNumber, readSymbols}
+use Rattle.card.proofs.Reading.{number-and, scan-bad, scan-left, scan-end, scan-high, scan-next}
+use Rattle.card.proofs.scan_symbols.Statement.{statement}
+use Rattle.card.proofs.scan_symbols.Tie as tie
+use Rattle.card.proofs.scan_symbols.Reads as reads
+use Rattle.card.proofs.scan_symbols.Lts as lts
+
+abbrev Inv-loop : tie.InvT-loop
+Inv-loop modulus card start count at₀ i₀ at i =
+    (i ≤ count) × (symbolsNumber (readSymbols modulus count (drop start card)) ≡ symbolsNumber (readSymbols modulus (count - i) (drop at card)))
+
+abbrev μ-loop : tie.MeasureT-loop
+μ-loop modulus card start count at₀ i₀ at i = count - i
+
+loop-holds : tie.Need-loop-holds Inv-loop μ-loop
+loop-holds c = (search needs, rw sub-zero)
+
+returns : tie.Need-returns Inv-loop μ-loop
+unfolding symbolsNumber
+returns c =
+    sym (c .before .before .before .before .loop .inv .1 ∙ ap symbolsNumber (scan-bad _ _ _ _ _ (c .before .before .before .loop-test .taken) (sym (c .before .before .read-number .ensures) ∙ c .enum-told .given .1)))
+
+returns-2 : tie.Need-returns-2 Inv-loop μ-loop
+unfolding symbolsNumber
+returns-2 c =
+    let l = c .before .before .before .before .before in
+    sym (l .before .loop .inv .1 ∙ ap symbolsNumber (scan-high _ _ _ _ _ _ _ (l .loop-test .taken) (sym (c .before .before .before .before .read-number .ensures) ∙ c .before .before .value .given .1) (c .if1 .taken)))
+
+loop-again : tie.Need-loop-again Inv-loop μ-loop
+loop-again c =
+    let l = c .before .before .before .before .before in (
+      search needs,
+      l .before .loop .inv .1 ∙ ap symbolsNumber (scan-next _ _ _ _ _ _ _ (l .loop-test .taken) (sym (c .before .before .before .before .read-number .ensures) ∙ c .before .before .value .given .1) (c .if1 .left)) ∙ number-and _ _,
+    )
+
+returns-3 : tie.Need-returns-3 Inv-loop μ-loop
+unfolding symbolsNumber
+returns-3 c = sym (c .before .before .loop .inv .1 ∙ ap symbolsNumber (scan-left _ _ _ _ _ (c .before .loop-test .left) (c .if2 .taken)))
+
+returns-4 : tie.Need-returns-4 Inv-loop μ-loop
+unfolding symbolsNumber
+returns-4 c = sym (c .before .before .loop .inv .1 ∙ ap symbolsNumber (scan-end _ _ _ _ _ (c .before .loop-test .left) (c .if2 .left)))
+
+pub scan-symbols-spec : {M : Type 1} → statement M
+scan-symbols-spec =
+    tie.close
+    (tie.spec
+    Inv-loop
+    μ-loop
+    loop-holds
+    (λ c κs. search needs)
+    (λ c. search needs)
+    (λ c. search needs)
+    returns
+    returns-2
+    (λ c. search needs)
+    (λ c. search needs)
+    loop-again
+    returns-3
+    returns-4)
