@@ -86,11 +86,11 @@ module _ (groups : ℕ) (bytes : List ℕ) (at : ℕ) (some : 0 < groups) (insid
 -- ---- the bytes from the place on
 
 -- a number read at a place: the bytes behind it are those from a later place on, and it fits in its groups
-record Behind (groups v : ℕ) (bytes rest : List ℕ) : Type 0 where
-  behind : rest ≡ drop (length bytes - length rest) bytes
-  fits : ((i : ℕ) → getD bytes i 0 < byteValues) → v < groupValues ^ groups
+pub record Behind (groups v : ℕ) (bytes rest : List ℕ) : Type 0 where
+  pub behind : rest ≡ drop (length bytes - length rest) bytes
+  pub fits : ((i : ℕ) → getD bytes i 0 < byteValues) → v < groupValues ^ groups
 
-read-behind : (groups : ℕ) (bytes : List ℕ) (at v : ℕ) (rest : List ℕ) → readNumber groups (drop at bytes) ≡ value v rest → Behind groups v bytes rest
+pub read-behind : (groups : ℕ) (bytes : List ℕ) (at v : ℕ) (rest : List ℕ) → readNumber groups (drop at bytes) ≡ value v rest → Behind groups v bytes rest
 read-behind zero bytes at v rest e = absurd (unfold readNumber in never e)
 read-behind (suc groups) bytes at v rest e = go (below-or-not at (length bytes)) (read-behind groups bytes (at + 1))
   where
