@@ -1,9 +1,8 @@
 -- Packing keeps its promise: where it turns back, and where the header's numbers and then the symbols are written from the front of the buffer.
 use mathlib.Core.Path.{_≡_, sym, ap, _∙_}
 use mathlib.Core.Bool.{true}
-use mathlib.Core.List.{List, [], _∷_, _++_, flatMap}
+use mathlib.Core.List.{List, [], _∷_, flatMap}
 use Prim.Native.Nat.{ℕ, _+_, _^_, _≤_}
-use native.Mathlib.Nat.{zero-add}
 use native.Mathlib.Omega.{arith}
 use lib.ListN.{length, length-append}
 use lib.Seq.{sets, length-sets}
@@ -55,7 +54,7 @@ module _ (h : Header) (symbols before : List ℕ) where
           let both = ap length parts ∙ length-append (numerals (headerNumbers h)) (numerals symbols) in
           let short : long ≡ length (cardBytes h symbols) = omega arith in
           let whole : sets before 0 (cardBytes h symbols) ≡ after =
-              ap (sets before 0) parts ∙ sets-append (numerals (headerNumbers h)) (numerals symbols) before 0 ∙ rw (← behind, ← head) (sym d) in
+          ap (sets before 0) parts ∙ sets-append (numerals (headerNumbers h)) (numerals symbols) before 0 ∙ rw (← behind, ← head) (sym d) in
           record {
             number = sym taken;
             returned = ap (λ n. n ∷ []) short ∙ sym (afterwards-done [] _ _ taken);

@@ -1,21 +1,18 @@
 -- Numbers at a place of some bytes: a group more, by what stands at the place; and what reading there says of the bytes from the place on.
 use mathlib.Core.Path.{_≡_, refl, sym, ap, _∙_}
 use mathlib.Core.Logic.{_⊎_, inl, inr}
-use mathlib.Core.Bool.{Bool, true, false, cond}
 use mathlib.Core.List.{List, [], _∷_}
 use Prim.Native.Nat.{ℕ, zero, suc, _+_, _*_, _-_, _^_, _≤_, _<_}
 use native.Mathlib.Nat.{pow-suc, pow-le-pow-right}
 use native.Mathlib.Decide.{ℕ-discrete}
 use native.Mathlib.Omega.{arith}
-use borrow.Author.Tests.{lt-ltb, le-ltb, eq-eqb, ne-eqb}
-use lib.Dec.{eqb}
+use borrow.Author.Tests.{eq-eqb, ne-eqb}
 use lib.ListN.{length, getD, drop, drop-of-length-le, length-drop}
 use Rattle.lists.proofs.Tests.{below-or-not}
 use Rattle.lists.proofs.Scans.{drop-next}
 use Rattle.shape.specs.Shape.{byteValues}
-use Rattle.card.specs.declared.Number.{Number}
 use Rattle.card.specs.declared.Number.the-variants.{Read, Malformed}
-use Rattle.card.specs.Numbers.{mostGroups, groupValues, Found, value, malformed, grouped, readNumber, placed, numberAt}
+use Rattle.card.specs.Numbers.{groupValues, Found, value, malformed, grouped, readNumber, placed, numberAt}
 use Rattle.card.proofs.Numbers.{read-one, read-more, grouped-more, never, value-parts}
 
 -- ---- a group more

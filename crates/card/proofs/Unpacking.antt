@@ -1,7 +1,7 @@
 -- Unpacking keeps its promise: where it turns back at the header's form, at the header, at the symbols, and where it does not.
 use mathlib.Core.Path.{_≡_, refl, sym, ap, ap₂, _∙_}
 use mathlib.Core.Logic.{_⊎_, inl, inr}
-use mathlib.Core.List.{List, [], _∷_}
+use mathlib.Core.List.{List}
 use Prim.Native.Nat.{ℕ, zero, suc, _-_, _≤_, _<_}
 use native.Mathlib.Omega.{arith}
 use borrow.Author.Tests.{eqb-true, not-false}
@@ -16,11 +16,10 @@ use Rattle.shape.proofs.Accepted.{passed}
 use Rattle.shape.proofs.Answers.{number-positive}
 use Rattle.card.specs.declared.Header.{Header}
 use Rattle.card.specs.declared.Front.the-variants as front
-use Rattle.card.specs.declared.Unpacked.{Unpacked}
 use Rattle.card.specs.declared.Unpacked.the-variants as unpack
 use Rattle.card.specs.Numbers.{mostGroups, Found, value, malformed, readNumber, Numbers, values, broken, andThen, thenNumbers, readNumbers}
-use Rattle.card.specs.Cards.{headerOf, headerCount, headerRefusal, Symbols, bad, got, symbolsNumber, symbolsRead, readSymbols, Reading, refused, card, judged, withHeader, unpacked}
-use Rattle.card.specs.Promises.{symbolValues, readingOf, readingNumber, readingSymbols, Unpacks, frontOf}
+use Rattle.card.specs.Cards.{headerOf, headerCount, headerRefusal, Symbols, bad, got, symbolsNumber, symbolsRead, readSymbols, refused, card, judged, withHeader, unpacked}
+use Rattle.card.specs.Promises.{symbolValues, readingNumber, readingSymbols, Unpacks, frontOf}
 use Rattle.card.proofs.Judging.{header-accepted}
 use Rattle.card.proofs.Places.{read-behind}
 use Rattle.card.proofs.Reading.{symbols-good}
@@ -120,5 +119,5 @@ module _ (bytes before : List ℕ) where
       unfolding readingNumber readingSymbols judged
       unpacks-done after e d =
           let whole : unpacked symbolValues bytes (length before) ≡ card header after =
-              behind-judged ∙ ap (judged header 0) (symbols-good symbolValues (length before) (drop next bytes) e) ∙ ap (card header) (sym d) in
+          behind-judged ∙ ap (judged header 0) (symbols-good symbolValues (length before) (drop next bytes) e) ∙ ap (card header) (sym d) in
           record { number = sym (ap readingNumber whole); returned = sym whole; buffer = sym (ap (readingSymbols before) whole) }

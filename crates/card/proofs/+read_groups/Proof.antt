@@ -1,11 +1,11 @@
 -- `card::read_groups` meets its contract: a group at a time, as the definition reads them. Each call has one group less to read.
-use mathlib.Core.Path.{sym, ap, _∙_}
-use Prim.Native.Nat.{ℕ, _-_, _<_}
+use mathlib.Core.Path.{sym, _∙_}
+use Prim.Native.Nat.{ℕ, _<_}
 use native.Mathlib.Omega.{arith}
 use borrow.Author.Needs.{needs}
 use borrow.Fn.Kinds.{In}
 use borrow.Fn.PlainCycle.{Measures, is, falls, and}
-use Rattle.card.specs.Numbers.{mostGroups, numberAt}
+use Rattle.card.specs.Numbers.{mostGroups}
 use Rattle.card.proofs.Places.{at-none, at-cut, at-one, at-bad, at-zero, at-more, number-fits}
 use Rattle.card.proofs.read_groups.Reads as read-groups
 use Rattle.card.proofs.read_groups.Kinds as read-groups-kinds

@@ -7,8 +7,6 @@ use Rattle.card.specs.Cards.{headerRefusal, cardRoom}
 use Rattle.card.proofs.Judging.{header-accepted, pack-turns, pack-sizes, pack-symbols, pack-good}
 use Rattle.card.proofs.judge_packing.Statement.{statement}
 use Rattle.card.proofs.judge_packing.Tie as tie
-use Rattle.card.proofs.judge_packing.Reads as reads
-use Rattle.card.proofs.judge_packing.Lts as lts
 
 -- where the header is judged
 good : (c : tie.After-s) → headerRefusal (c .before .before .before .before .before .args .header) 0 ≡ 0

@@ -7,8 +7,6 @@ use Rattle.card.specs.Cards.{headerRefusal}
 use Rattle.card.proofs.Judging.{header-accepted, header-passes, header-turns}
 use Rattle.card.proofs.judge_unpacking.Statement.{statement}
 use Rattle.card.proofs.judge_unpacking.Tie as tie
-use Rattle.card.proofs.judge_unpacking.Reads as reads
-use Rattle.card.proofs.judge_unpacking.Lts as lts
 
 -- where the header is judged
 good : (c : tie.After-s) → headerRefusal (c .before .before .before .before .args .header) 0 ≡ 0

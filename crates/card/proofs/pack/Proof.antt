@@ -8,8 +8,6 @@ use Rattle.card.specs.Promises.{symbolValues}
 use Rattle.card.proofs.Packing.{packs-refused, header-fits, symbols-fit, packs-done}
 use Rattle.card.proofs.pack.Statement.{statement}
 use Rattle.card.proofs.pack.Tie as tie
-use Rattle.card.proofs.pack.Reads as reads
-use Rattle.card.proofs.pack.Lts as lts
 
 -- where nothing is refused
 taken : (c : tie.After-s) →

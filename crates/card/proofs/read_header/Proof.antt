@@ -5,8 +5,6 @@ use Rattle.card.specs.Cards.{headerOf}
 use Rattle.card.proofs.Reading.{Begun, begun, begun-next, begun-bad, begun-end}
 use Rattle.card.proofs.read_header.Statement.{statement}
 use Rattle.card.proofs.read_header.Tie as tie
-use Rattle.card.proofs.read_header.Reads as reads
-use Rattle.card.proofs.read_header.Lts as lts
 
 abbrev one : (c : tie.After-known-told) → Begun (c .before .before .before .before .before .args .card .now) 4 (c .before .n .given .0 .1 .0)
 one c = begun-next (begun _) (sym (c .before .before .before .read-number .ensures) ∙ c .before .n .given .1)

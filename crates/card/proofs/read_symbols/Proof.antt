@@ -1,7 +1,7 @@
 -- `card::read_symbols` meets its contract: what was read is in the buffer up to symbol i, and the rest can be read at the place.
 use mathlib.Core.Path.{_≡_, refl, sym, ap, _∙_}
 use mathlib.Core.List.{_++_, append-nil}
-use Prim.Native.Nat.{_-_, _≤_, _<_}
+use Prim.Native.Nat.{_-_, _≤_}
 use native.Mathlib.Nat.{sub-zero}
 use native.Mathlib.Omega.{arith}
 use borrow.Author.Needs.{needs}
@@ -10,11 +10,9 @@ use lib.Seq.{take-all}
 use Rattle.lists.proofs.Buffers.{take-more}
 use Rattle.card.specs.Cards.{symbolsRead, readSymbols}
 use Rattle.card.specs.Promises.{symbolValues}
-use Rattle.card.proofs.Reading.{Good, Kept, symbols-good, scan-kept, kept-never, kept-end}
+use Rattle.card.proofs.Reading.{Good, symbols-good, scan-kept, kept-never, kept-end}
 use Rattle.card.proofs.read_symbols.Statement.{statement}
 use Rattle.card.proofs.read_symbols.Tie as tie
-use Rattle.card.proofs.read_symbols.Reads as reads
-use Rattle.card.proofs.read_symbols.Lts as lts
 
 abbrev Inv-loop : tie.InvT-loop
 Inv-loop card start symbols₀ at₀ i₀ symbols at i =

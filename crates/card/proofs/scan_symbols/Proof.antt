@@ -8,8 +8,6 @@ use Rattle.card.specs.Cards.{symbolsNumber, readSymbols}
 use Rattle.card.proofs.Reading.{number-and, scan-bad, scan-left, scan-end, scan-high, scan-next}
 use Rattle.card.proofs.scan_symbols.Statement.{statement}
 use Rattle.card.proofs.scan_symbols.Tie as tie
-use Rattle.card.proofs.scan_symbols.Reads as reads
-use Rattle.card.proofs.scan_symbols.Lts as lts
 
 abbrev Inv-loop : tie.InvT-loop
 Inv-loop modulus card start count at₀ i₀ at i =

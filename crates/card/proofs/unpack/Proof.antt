@@ -10,8 +10,6 @@ use Rattle.card.specs.Promises.{frontOf}
 use Rattle.card.proofs.Unpacking.{unpacks-broken, unpacks-header, unpacks-symbols, unpacks-done}
 use Rattle.card.proofs.unpack.Statement.{statement}
 use Rattle.card.proofs.unpack.Tie as tie
-use Rattle.card.proofs.unpack.Reads as reads
-use Rattle.card.proofs.unpack.Lts as lts
 
 returns : tie.Need-returns
 returns c = unpacks-broken _ _ _ (sym (c .before .before .read-header .ensures) ∙ c .enum-told .given .1)

@@ -9,8 +9,6 @@ use Rattle.card.specs.Numbers.{mostGroups, groupValues, numeral}
 use Rattle.card.proofs.Numbers.{numeral-one, numeral-some, numeral-next}
 use Rattle.card.proofs.write_number.Statement.{statement}
 use Rattle.card.proofs.write_number.Tie as tie
-use Rattle.card.proofs.write_number.Reads as reads
-use Rattle.card.proofs.write_number.Lts as lts
 
 abbrev Inv-loop : tie.InvT-loop
 Inv-loop number card₀ at rest₀ place₀ card rest place =

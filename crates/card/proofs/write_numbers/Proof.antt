@@ -7,9 +7,6 @@ use Rattle.lists.proofs.Tests.{all-below-at}
 use Rattle.card.proofs.Numerals.{Numerals, numerals-all, numerals-room, numerals-next, numerals-end}
 use Rattle.card.proofs.write_numbers.Statement.{statement}
 use Rattle.card.proofs.write_numbers.Tie as tie
-use Rattle.card.proofs.write_numbers.Reads as reads
-use Rattle.card.proofs.write_numbers.Lts as lts
-use Rattle.card.proofs.write_number.Reads as write-number-reads
 
 abbrev Inv-loop : tie.InvT-loop
 Inv-loop numbers card₀ at place₀ i₀ card place i = (i ≤ length numbers) × Numerals numbers card₀ at i card place

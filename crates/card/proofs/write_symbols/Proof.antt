@@ -6,9 +6,6 @@ use lib.ListN.{length}
 use Rattle.card.proofs.Numerals.{Numerals, numerals-all, numerals-room, numerals-next, numerals-end}
 use Rattle.card.proofs.write_symbols.Statement.{statement}
 use Rattle.card.proofs.write_symbols.Tie as tie
-use Rattle.card.proofs.write_symbols.Reads as reads
-use Rattle.card.proofs.write_symbols.Lts as lts
-use Rattle.card.proofs.write_number.Reads as write-number-reads
 
 abbrev Inv-loop : tie.InvT-loop
 Inv-loop symbols card₀ at place₀ i₀ card place i = (i ≤ length symbols) × Numerals symbols card₀ at i card place
