@@ -134,6 +134,13 @@ def changed(t, i):
     t.unpack(SAMPLE[:place] + bytes([byte]) + SAMPLE[place + 1:], 8)
 
 
+def twice(t, i):
+    card = bytearray(SAMPLE)
+    card[9 + i % 6] = BYTES[i // 6 % 6]
+    card[9 + i // 36 % 6] = BYTES[i // 216]
+    t.unpack(bytes(card), 8)
+
+
 def rooms(t, i):
     t.unpack(SAMPLE, i)
 
@@ -147,7 +154,7 @@ def formed(t, i):
 
 
 def headed(t, i):
-    header = [i % 14, i // 14 % 13, LAYERS[i // 182 % 5], NODES[i // 910 % 5], LENGTHS[i // 4550 % 5]]
+    header = [i % 15, i // 15 % 13, LAYERS[i // 195 % 5], NODES[i // 975 % 5], LENGTHS[i // 4875 % 5]]
     t.unpack(bytes(x % 256 for x in header) + SAMPLE[5:], 8)
 
 
@@ -161,10 +168,10 @@ def paired(t, i):
 
 
 def pack_headed(t, i):
-    header = [[*range(13), BIG][i % 14], i // 14 % 13, LAYERS[i // 182 % 5], NODES[i // 910 % 5], LENGTHS[i // 4550 % 5]]
+    header = [[*range(14), BIG][i % 15], i // 15 % 13, LAYERS[i // 195 % 5], NODES[i // 975 % 5], LENGTHS[i // 4875 % 5]]
     symbols = [256] * 8
-    symbols[5] += i // 22750 % 2
-    t.pack(header, symbols, 30 + i // 45500)
+    symbols[5] += i // 24375 % 2
+    t.pack(header, symbols, 30 + i // 48750)
 
 
 def pack_symbols(t, i):
@@ -190,8 +197,8 @@ def largest():
 
 
 def main():
-    groups = [(cut, 16), (changed, 3840), (rooms, 25), (formed, 41472), (headed, 22750), (placed, 45360), (paired, 65536),
-              (pack_headed, 91000), (pack_symbols, 80), (pack_rooms, 539)]
+    groups = [(cut, 16), (changed, 3840), (twice, 1296), (rooms, 25), (formed, 41472), (headed, 24375), (placed, 45360), (paired, 65536),
+              (pack_headed, 97500), (pack_symbols, 80), (pack_rooms, 539)]
     for group, cases in groups:
         t = Tally()
         for i in range(cases):

@@ -14,8 +14,7 @@ use Rattle.shape.specs.declared.Refusal.the-variants as refusal
 use Rattle.card.specs.declared.Front.the-variants as front
 use Rattle.card.specs.declared.Number.the-variants.{Read, Malformed}
 use Rattle.card.specs.Numbers.{mostGroups, Found, value, malformed, readNumber, Numbers, values, broken, andThen, thenNumbers, numberAt, readNumbers}
-use Rattle.card.specs.Cards.{headerOf, headerCount, Symbols, bad, got, symbolsNumber, symbolsRead, andSymbol, atEnd, thenSymbols, readSymbols}
-use Rattle.card.specs.Promises.{frontOf}
+use Rattle.card.specs.Cards.{headerOf, headerCount, Symbols, bad, got, symbolsNumber, symbolsRead, andSymbol, atEnd, thenSymbols, readSymbols, frontOf}
 use Rattle.card.proofs.Places.{number-bad, number-read, number-inside}
 
 -- ---- the header

@@ -1,19 +1,15 @@
 -- What packing and unpacking promise: the number, what is returned, and the lent buffer when the call returns, turned back or not.
 use mathlib.Core.Path.{_≡_}
 use mathlib.Core.List.{List, [], _∷_, _++_}
-use Prim.Native.Nat.{ℕ, _-_}
+use Prim.Native.Nat.{ℕ}
 use lib.ListN.{length, drop}
 use Rattle.shape.specs.Refusals.{numberOf, afterwards}
-use Rattle.shape.specs.declared.Refusal.the-variants.{Malformed}
 use Rattle.card.specs.declared.Header.{Header}
-use Rattle.card.specs.declared.Front.{Front}
-use Rattle.card.specs.declared.Front.the-variants as front
 use Rattle.card.specs.declared.Packed.{Packed}
 use Rattle.card.specs.declared.Packed.the-variants as pack
 use Rattle.card.specs.declared.Unpacked.{Unpacked}
 use Rattle.card.specs.declared.Unpacked.the-variants as unpack
-use Rattle.card.specs.Numbers.{Numbers, values, broken}
-use Rattle.card.specs.Cards.{headerOf, cardBytes, packRefusal, Reading, refused, card, unpacked}
+use Rattle.card.specs.Cards.{cardBytes, packRefusal, Reading, refused, card, unpacked}
 
 -- "Symbols are whole numbers 0 to 256"
 abbrev pub symbolValues : ℕ
@@ -67,10 +63,3 @@ pub record Unpacks (bytes before after : List ℕ) (answer : Unpacked) : Type 0 
   pub number : unpackedNumber answer ≡ readingNumber (unpacked symbolValues bytes (length before))
   pub returned : readingOf answer after ≡ unpacked symbolValues bytes (length before)
   pub buffer : after ≡ readingSymbols before (unpacked symbolValues bytes (length before))
-
--- ---- the front of a card, by places
-
--- what reading the five numbers in `long` bytes finds: the header, and the place behind it
-unfoldable pub frontOf : ℕ → Numbers → Front
-frontOf long broken = front.Refused Malformed
-frontOf long (values xs rest) = front.Read (headerOf xs) (long - length rest)

@@ -19,9 +19,11 @@ const SYMBOLS: [u16; 10] = [0, 1, 127, 128, 255, 256, 257, 16383, 16384, 65535];
 
 const LAYERS: [usize; 5] = [0, 1, 2, 15, 16];
 
-const NODES: [usize; 5] = [0, 1, 2, 3, 18446744073709551615];
+const LARGEST: usize = 18446744073709551615;
 
-const LENGTHS: [usize; 5] = [0, 8, 9, 127, 18446744073709551615];
+const NODES: [usize; 5] = [0, 1, 2, 3, LARGEST];
+
+const LENGTHS: [usize; 5] = [0, 8, 9, 127, LARGEST];
 
 // The digest: a polynomial modulo a prime.
 const PRIME: u64 = 4294967291;
@@ -157,6 +159,15 @@ fn changed(t: Tally, i: usize) -> Tally {
     unpacked(t, &card, 8)
 }
 
+// Two of the last six bytes changed: which comes first, a bad form or a bad value.
+fn twice(t: Tally, i: usize) -> Tally {
+    let bytes = BYTES;
+    let mut card = SAMPLE;
+    card[9 + i % 6] = bytes[i / 6 % 6];
+    card[9 + i / 36 % 6] = bytes[i / 216 % 6];
+    unpacked(t, &card, 8)
+}
+
 // The sample into a buffer of each size.
 fn rooms(t: Tally, i: usize) -> Tally {
     let card = SAMPLE;
@@ -212,11 +223,11 @@ fn headed(t: Tally, i: usize) -> Tally {
     let nodes = NODES;
     let lengths = LENGTHS;
     let mut card = SAMPLE;
-    card[0] = (i % 14) as u8;
-    card[1] = (i / 14 % 13) as u8;
-    card[2] = (layers[i / 182 % 5] % 256) as u8;
-    card[3] = (nodes[i / 910 % 5] % 256) as u8;
-    card[4] = (lengths[i / 4550 % 5] % 256) as u8;
+    card[0] = (i % 15) as u8;
+    card[1] = (i / 15 % 13) as u8;
+    card[2] = (layers[i / 195 % 5] % 256) as u8;
+    card[3] = (nodes[i / 975 % 5] % 256) as u8;
+    card[4] = (lengths[i / 4875 % 5] % 256) as u8;
     unpacked(t, &card, 8)
 }
 
@@ -236,7 +247,7 @@ fn placed(t: Tally, i: usize) -> Tally {
     if at < 6 {
         read(t, some, at)
     } else {
-        read(t, some, 18446744073709551615)
+        read(t, some, LARGEST)
     }
 }
 
@@ -246,42 +257,27 @@ fn paired(t: Tally, i: usize) -> Tally {
     read(t, &bytes, 0)
 }
 
+fn header_of(n: usize, k: usize, layers: usize, node: usize, length: usize) -> Header {
+    let shape = Shape { n, k, layers };
+    Header {
+        shape,
+        node,
+        length,
+    }
+}
+
 // Packing under a header, with a symbol that is none and a buffer that is too short, or not.
 fn pack_headed(t: Tally, i: usize) -> Tally {
     let layers = LAYERS;
     let nodes = NODES;
     let lengths = LENGTHS;
-    let n = if i % 14 < 13 {
-        i % 14
-    } else {
-        18446744073709551615
-    };
+    let n = if i % 15 < 14 { i % 15 } else { LARGEST };
     let mut symbols = [256u16; 8];
-    symbols[5] = (256 + i / 22750 % 2) as u16;
-    let shape = Shape {
-        n,
-        k: i / 14 % 13,
-        layers: layers[i / 182 % 5],
-    };
-    let header = Header {
-        shape,
-        node: nodes[i / 910 % 5],
-        length: lengths[i / 4550 % 5],
-    };
-    packed(t, header, &symbols, 30 + i / 45500 % 2)
-}
-
-fn sample_header() -> Header {
-    let shape = Shape {
-        n: 3,
-        k: 1,
-        layers: 1,
-    };
-    Header {
-        shape,
-        node: 1,
-        length: 2,
-    }
+    symbols[5] = (256 + i / 24375 % 2) as u16;
+    let node = nodes[i / 975 % 5];
+    let length = lengths[i / 4875 % 5];
+    let header = header_of(n, i / 15 % 13, layers[i / 195 % 5], node, length);
+    packed(t, header, &symbols, 30 + i / 48750 % 2)
 }
 
 // One symbol of eight as each of ten.
@@ -289,7 +285,7 @@ fn pack_symbols(t: Tally, i: usize) -> Tally {
     let values = SYMBOLS;
     let mut symbols = [256u16; 8];
     symbols[i % 8] = values[i / 8 % 10];
-    packed(t, sample_header(), &symbols, 31)
+    packed(t, header_of(3, 1, 1, 1, 2), &symbols, 31)
 }
 
 fn some_symbols(symbols: &[u16], n: usize) -> &[u16] {
@@ -303,12 +299,8 @@ fn some_symbols(symbols: &[u16], n: usize) -> &[u16] {
 // Buffers of each size, with a symbol that is none.
 fn pack_rooms(t: Tally, i: usize) -> Tally {
     let symbols = [257u16; 10];
-    packed(
-        t,
-        sample_header(),
-        some_symbols(&symbols, i % 11),
-        i / 11 % 49,
-    )
+    let some = some_symbols(&symbols, i % 11);
+    packed(t, header_of(3, 1, 1, 1, 2), some, i / 11 % 49)
 }
 
 // ---- groups
@@ -324,6 +316,7 @@ fn one(group: usize, t: Tally, i: usize) -> Tally {
         6 => paired(t, i),
         7 => pack_headed(t, i),
         8 => pack_symbols(t, i),
+        9 => twice(t, i),
         _ => pack_rooms(t, i),
     }
 }
@@ -373,16 +366,7 @@ fn fill(symbols: &mut [u16]) {
 fn largest() -> Tally {
     let mut symbols = [0u16; 61440];
     let mut card = [170u8; 122895];
-    let shape = Shape {
-        n: 12,
-        k: 10,
-        layers: 15,
-    };
-    let header = Header {
-        shape,
-        node: 11,
-        length: 614400,
-    };
+    let header = header_of(12, 10, 15, 11, 614400);
     fill(&mut symbols);
     let Packed::Card(long) = card::pack(header, &symbols, &mut card) else {
         return nothing();
@@ -401,13 +385,14 @@ fn largest() -> Tally {
 fn main() {
     run(b"cut", 0, 16);
     run(b"changed", 1, 3840);
+    run(b"twice", 9, 1296);
     run(b"rooms", 2, 25);
     run(b"formed", 3, 41472);
-    run(b"headed", 4, 22750);
+    run(b"headed", 4, 24375);
     run(b"placed", 5, 45360);
     run(b"paired", 6, 65536);
-    run(b"pack-headed", 7, 91000);
+    run(b"pack-headed", 7, 97500);
     run(b"pack-symbols", 8, 80);
-    run(b"pack-rooms", 9, 539);
+    run(b"pack-rooms", 10, 539);
     report(b"largest", largest());
 }

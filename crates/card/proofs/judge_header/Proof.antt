@@ -17,7 +17,7 @@ returns : tie.Need-returns
 returns c = sym (head-shape _ _ (sym (c .before .shape-bad .ensures) ∙ c .if1 .taken))
 
 returns-2 : tie.Need-returns-2
-returns-2 c = sym (head-node _ _ (good (c .before)) (c .if2 .taken))
+returns-2 c = sym (head-node _ _ (good (c .before)) (omega arith))
 
 size-requires : tie.Need-size-requires
 size-requires c κs = good (c .before)
@@ -26,10 +26,10 @@ mul-if3 : tie.Need-mul-if3
 mul-if3 c = rw (c .size .ensures) (omega (arith, capacity-high _ (shape-accepted _ (good (c .before .before)))))
 
 returns-3 : tie.Need-returns-3
-returns-3 c = sym (head-length _ _ (good (c .before .before .before)) (c .before .before .if2 .left) (rw (c .before .size .ensures) at (c .if3 .taken)))
+returns-3 c = sym (head-length _ _ (good (c .before .before .before)) (omega arith) (rw (c .before .size .ensures) at (c .if3 .taken)))
 
 returns-4 : tie.Need-returns-4
-returns-4 c = sym (head-good _ _ (good (c .before .before .before)) (c .before .before .if2 .left) (rw (c .before .size .ensures) at (c .if3 .left)))
+returns-4 c = sym (head-good _ _ (good (c .before .before .before)) (omega arith) (rw (c .before .size .ensures) at (c .if3 .left)))
 
 pub judge-header-spec : {M : Type 1} → statement M
 judge-header-spec = tie.close (tie.spec (λ c κs. search needs) returns returns-2 size-requires mul-if3 returns-3 returns-4)

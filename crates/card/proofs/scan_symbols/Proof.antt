@@ -2,6 +2,7 @@
 use mathlib.Core.Path.{_≡_, sym, ap, _∙_}
 use Prim.Native.Nat.{_-_, _≤_}
 use native.Mathlib.Nat.{sub-zero}
+use native.Mathlib.Omega.{arith}
 use borrow.Author.Needs.{needs}
 use lib.ListN.{drop}
 use Rattle.card.specs.Cards.{symbolsNumber, readSymbols}
@@ -22,28 +23,36 @@ loop-holds c = (search needs, rw sub-zero)
 returns : tie.Need-returns Inv-loop μ-loop
 unfolding symbolsNumber
 returns c =
-    sym (c .before .before .before .before .loop .inv .1 ∙ ap symbolsNumber (scan-bad _ _ _ _ _ (c .before .before .before .loop-test .taken) (sym (c .before .before .read-number .ensures) ∙ c .enum-told .given .1)))
+    let l = c .before .before .before .before in
+    let read = sym (c .before .before .read-number .ensures) ∙ c .enum-told .given .1 in
+    sym (l .loop .inv .1 ∙ ap symbolsNumber (scan-bad _ _ _ (l .before .before .args .count) (l .loop .i) (omega arith) read))
 
 returns-2 : tie.Need-returns-2 Inv-loop μ-loop
 unfolding symbolsNumber
 returns-2 c =
-    let l = c .before .before .before .before .before in
-    sym (l .before .loop .inv .1 ∙ ap symbolsNumber (scan-high _ _ _ _ _ _ _ (l .loop-test .taken) (sym (c .before .before .before .before .read-number .ensures) ∙ c .before .before .value .given .1) (c .if1 .taken)))
+    let l = c .before .before .before .before .before .before in
+    let read = sym (c .before .before .before .before .read-number .ensures) ∙ c .before .before .value .given .1 in
+    sym (l .loop .inv .1 ∙ ap symbolsNumber (scan-high _ _ _ (l .before .before .args .count) (l .loop .i) _ _ (omega arith) read (omega arith)))
 
 loop-again : tie.Need-loop-again Inv-loop μ-loop
 loop-again c =
-    let l = c .before .before .before .before .before in (
+    let l = c .before .before .before .before .before .before in
+    let read = sym (c .before .before .before .before .read-number .ensures) ∙ c .before .before .value .given .1 in (
       search needs,
-      l .before .loop .inv .1 ∙ ap symbolsNumber (scan-next _ _ _ _ _ _ _ (l .loop-test .taken) (sym (c .before .before .before .before .read-number .ensures) ∙ c .before .before .value .given .1) (c .if1 .left)) ∙ number-and _ _,
+      l .loop .inv .1 ∙ ap symbolsNumber (scan-next _ _ _ (l .before .before .args .count) (l .loop .i) _ _ (omega arith) read (omega arith)) ∙ number-and _ _,
     )
 
 returns-3 : tie.Need-returns-3 Inv-loop μ-loop
 unfolding symbolsNumber
-returns-3 c = sym (c .before .before .loop .inv .1 ∙ ap symbolsNumber (scan-left _ _ _ _ _ (c .before .loop-test .left) (c .if2 .taken)))
+returns-3 c =
+    let l = c .before .before in
+    sym (l .loop .inv .1 ∙ ap symbolsNumber (scan-left _ (l .before .before .args .card .now) (l .loop .at) (l .before .before .args .count) (l .loop .i) (omega arith) (omega arith)))
 
 returns-4 : tie.Need-returns-4 Inv-loop μ-loop
 unfolding symbolsNumber
-returns-4 c = sym (c .before .before .loop .inv .1 ∙ ap symbolsNumber (scan-end _ _ _ _ _ (c .before .loop-test .left) (c .if2 .left)))
+returns-4 c =
+    let l = c .before .before in
+    sym (l .loop .inv .1 ∙ ap symbolsNumber (scan-end _ (l .before .before .args .card .now) (l .loop .at) (l .before .before .args .count) (l .loop .i) (omega arith) (omega arith)))
 
 pub scan-symbols-spec : {M : Type 1} → statement M
 scan-symbols-spec =
