@@ -1,0 +1,79 @@
+-- The round trips, about the promises of the calls: unpacking what packing wrote gives header and symbols back, packing what unpacking gave
+-- writes the same bytes, and a number that is read stands in its shortest form, the only one.
+use mathlib.Core.Path.{_≡_, refl, sym, ap, _∙_}
+use mathlib.Core.Bool.{true}
+use mathlib.Core.List.{List, [], _∷_, _++_}
+use Prim.Native.Nat.{ℕ, _+_, _-_, _^_, _<_}
+use native.Mathlib.Omega.{arith}
+use lib.ListN.{length, take, drop, length-append, take-append-drop}
+use lib.Seq.{take-at, drop-append-seam}
+use Rattle.lists.specs.Lists.{all, below}
+use Rattle.shape.specs.Shape.{size, byteValues}
+use Rattle.shape.proofs.Answers.{number-positive, afterwards-done}
+use Rattle.card.specs.declared.Header.{Header}
+use Rattle.card.specs.declared.Number.the-variants.{Read}
+use Rattle.card.specs.declared.Packed.{Packed}
+use Rattle.card.specs.declared.Packed.the-variants as pack
+use Rattle.card.specs.declared.Unpacked.{Unpacked}
+use Rattle.card.specs.declared.Unpacked.the-variants as unpack
+use Rattle.card.specs.Numbers.{mostGroups, groupValues, numeral, readNumber, placed, numberAt}
+use Rattle.card.specs.Cards.{cardBytes, cardRoom, packRefusal, card, unpacked}
+use Rattle.card.specs.Promises.{symbolValues, over, Packs, readingOf, Unpacks}
+use Rattle.card.proofs.Numbers.{read-numeral, number-unique, all-behind}
+use Rattle.card.proofs.Places.{number-read}
+use Rattle.card.proofs.Cards.{unpack-packed, pack-unpacked}
+
+-- ---- numbers
+
+-- a number read at a place: its shortest form stands there
+pub number-only : (bytes : List ℕ) (at v next : ℕ) → all (below byteValues) bytes ≡ true → numberAt mostGroups bytes at ≡ Read v next
+    → drop at bytes ≡ numeral mostGroups v ++ drop next bytes
+number-only bytes at v next small e =
+    number-unique mostGroups (drop at bytes) v (drop next bytes) (all-behind (below byteValues) (take at bytes) (drop at bytes) (rw (take-append-drop at bytes) small))
+    (number-read mostGroups bytes at v next e)
+
+-- the shortest form of a number, wherever it stands, is read
+pub number-back : (front behind : List ℕ) (v : ℕ) → v < groupValues ^ mostGroups
+    → numberAt mostGroups (front ++ (numeral mostGroups v ++ behind)) (length front) ≡ Read v (length front + length (numeral mostGroups v))
+unfolding numberAt placed
+number-back front behind v h =
+    let long = length-append front (numeral mostGroups v ++ behind) in
+    let short = length-append (numeral mostGroups v) behind in
+    ap (placed (length (front ++ (numeral mostGroups v ++ behind)))) (ap (readNumber mostGroups) (drop-append-seam front (numeral mostGroups v ++ behind)) ∙ read-numeral (mostGroups - 1) v behind h)
+    ∙ ap (Read v) (let e : length (front ++ (numeral mostGroups v ++ behind)) - length behind ≡ length front + length (numeral mostGroups v) = omega arith in e)
+
+-- ---- cards
+
+module _ (h : Header) (symbols before after : List ℕ) where
+  -- what packing wrote, where it did not turn back
+  written : (answer : Packed) → Packs h symbols before after answer → packRefusal symbolValues h symbols (length before) ≡ 0
+      → (answer ≡ pack.Card (length (cardBytes h symbols))) × (take (length (cardBytes h symbols)) after ≡ cardBytes h symbols)
+  unfolding over
+  written (pack.Refused cause) p e = absurd (omega (arith, p .number, e, number-positive cause))
+  written (pack.Card long) p e =
+      let one : long ∷ [] ≡ length (cardBytes h symbols) ∷ [] = p .returned ∙ afterwards-done [] _ _ e in
+      (ap pack.Card (cc), ap (take (length (cardBytes h symbols))) (p .buffer ∙ afterwards-done before _ _ e) ∙ take-at (cardBytes h symbols) _ _ refl)
+
+  -- "Cards (node files) are packed and unpacked": what was packed is unpacked as it was
+  pub packed-unpacks : (long : ℕ) → Packs h symbols before after (pack.Card long)
+      → (buffer buffer′ : List ℕ) (answer : Unpacked) → length buffer ≡ size (h .shape) → Unpacks (take long after) buffer buffer′ answer
+      → (answer ≡ unpack.Header h) × (buffer′ ≡ symbols)
+  packed-unpacks long p buffer buffer′ answer e u =
+      let w = written (pack.Card long) p (sym (p .number)) in
+      let same : long ≡ length (cardBytes h symbols) = cc in
+      go answer (u .returned
+      ∙ ap (unpacked symbolValues (take long after)) e
+      ∙ ap (λ l. unpacked symbolValues l (size (h .shape))) (ap (λ n. take n after) same ∙ w .1)
+      ∙ unpack-packed symbolValues (omega arith) h symbols (length before) (sym (p .number)))
+    where
+      go : (answer : Unpacked) → readingOf answer buffer′ ≡ card h symbols → (answer ≡ unpack.Header h) × (buffer′ ≡ symbols)
+      go (unpack.Header h′) q = (ap unpack.Header (let s : h′ ≡ h = cc in s), cc)
+      go (unpack.Refused cause) q = absurd (let z : _≡_ {A = ℕ} 0 1 = cc in omega arith)
+
+-- a card that was accepted is packed as it was
+pub unpacked-packs : (bytes buffer symbols : List ℕ) (h : Header) → all (below byteValues) bytes ≡ true → Unpacks bytes buffer symbols (unpack.Header h)
+    → (before after : List ℕ) (answer : Packed) → length before ≡ cardRoom (h .shape) → Packs h symbols before after answer
+    → (answer ≡ pack.Card (length bytes)) × (take (length bytes) after ≡ bytes)
+unpacked-packs bytes buffer symbols h small u before after answer e p =
+    let back = pack-unpacked symbolValues bytes (length buffer) h symbols small (sym (u .returned)) in
+    rw (← (back .0)) (written h symbols before after answer p (ap (packRefusal symbolValues h symbols) e ∙ back .1))

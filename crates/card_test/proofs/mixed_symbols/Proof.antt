@@ -1,0 +1,28 @@
+-- `card_test::mixed_symbols` meets its contract. Assumes nothing.
+use Prim.Native.Nat.{_-_, _≤_}
+use borrow.Author.Needs.{needs}
+use lib.ListN.{length}
+use Rattle.card_test.proofs.mixed_symbols.Statement.{statement}
+use Rattle.card_test.proofs.mixed_symbols.Tie as tie
+
+abbrev Inv-loop : tie.InvT-loop
+Inv-loop symbols t₀ i₀ t i = i ≤ length symbols
+
+abbrev μ-loop : tie.MeasureT-loop
+μ-loop symbols t₀ i₀ t i = length symbols - i
+
+pub mixed-symbols-spec : {M : Type 1} → statement M
+mixed-symbols-spec =
+    tie.close
+    (tie.spec
+    Inv-loop
+    μ-loop
+    (λ c. search needs)
+    (λ c. search needs)
+    (λ c. search needs)
+    (λ c κs. search needs)
+    (λ c κs. search needs)
+    (λ c. search needs)
+    (λ c. search needs)
+    (λ c. search needs)
+    (λ c. search needs))

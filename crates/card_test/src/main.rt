@@ -1,0 +1,398 @@
+// Cards, executed: groups of cases, each group's answers and buffers in one line of output. Whatever a call returns, and every element
+// of the buffer lent to it, goes into the line's digest; behind it stand how often each number was answered, 0 to 8.
+// The stored output is written by another program, from document 01 alone: python3 tests/card_expected.py > crates/card_test/stdout
+use card::Header;
+use card::Number;
+use card::Packed;
+use card::Unpacked;
+use libc::STDOUT_FILENO;
+use shape::Refusal;
+use shape::Shape;
+
+// "Its card for node 1: 3 1 1 1 2 253 1 247 1 0 0 0 0 0 0."
+const SAMPLE: [u8; 15] = [3, 1, 1, 1, 2, 253, 1, 247, 1, 0, 0, 0, 0, 0, 0];
+
+// Bytes that start, continue and end numbers.
+const BYTES: [u8; 6] = [0, 1, 3, 128, 129, 255];
+
+const SYMBOLS: [u16; 10] = [0, 1, 127, 128, 255, 256, 257, 16383, 16384, 65535];
+
+const LAYERS: [usize; 5] = [0, 1, 2, 15, 16];
+
+const LARGEST: usize = 18446744073709551615;
+
+const NODES: [usize; 5] = [0, 1, 2, 3, LARGEST];
+
+const LENGTHS: [usize; 5] = [0, 8, 9, 127, LARGEST];
+
+// The digest: a polynomial modulo a prime.
+const PRIME: u64 = 4294967291;
+
+const BASE: u64 = 1000003;
+
+struct Tally {
+    digest: u64,
+    counts: [u64; 9],
+}
+
+fn mixed(t: Tally, x: usize) -> Tally {
+    let counts = t.counts;
+    let d = t.digest;
+    Tally {
+        digest: (d % PRIME * BASE + x as u64 % PRIME) % PRIME,
+        counts,
+    }
+}
+
+fn counted(t: Tally, number: usize) -> Tally {
+    let mut counts = t.counts;
+    let digest = t.digest;
+    let i = number % 9;
+    counts[i] = counts[i] % PRIME + 1;
+    mixed(Tally { digest, counts }, number)
+}
+
+fn wide(b: u8) -> usize {
+    b as usize
+}
+
+fn wide_symbol(x: u16) -> usize {
+    x as usize
+}
+
+// The first n bytes.
+fn front(bytes: &[u8], n: usize) -> &[u8] {
+    if bytes.len() < n { bytes } else { &bytes[0..n] }
+}
+
+fn mixed_symbols(start: Tally, symbols: &[u16]) -> Tally {
+    let mut t = start;
+    let mut i = 0;
+    while i < symbols.len() {
+        t = mixed(t, wide_symbol(symbols[i]));
+        i += 1;
+    }
+    t
+}
+
+fn mixed_bytes(start: Tally, bytes: &[u8]) -> Tally {
+    let mut t = start;
+    let mut i = 0;
+    while i < bytes.len() {
+        t = mixed(t, wide(bytes[i]));
+        i += 1;
+    }
+    t
+}
+
+fn number_of(cause: Refusal) -> usize {
+    match cause {
+        Refusal::BadShape => 1,
+        Refusal::BadNodes => 2,
+        Refusal::PartBatch => 3,
+        Refusal::WrongLength => 4,
+        Refusal::BadSymbol => 5,
+        Refusal::Malformed => 6,
+        Refusal::NoTranscript => 7,
+        Refusal::ZeroDivisor => 8,
+    }
+}
+
+fn mixed_answer(t: Tally, answer: Unpacked) -> Tally {
+    match answer {
+        Unpacked::Refused(cause) => counted(t, number_of(cause)),
+        Unpacked::Header(h) => {
+            let s = h.shape;
+            let a = mixed(mixed(mixed(counted(t, 0), s.n), s.k), s.layers);
+            mixed(mixed(a, h.node), h.length)
+        }
+    }
+}
+
+// Unpacks into the first `room` symbols of a buffer.
+fn unpacked_into(t: Tally, card: &[u8], symbols: &mut [u16], room: usize) -> Tally {
+    if symbols.len() < room {
+        return t;
+    }
+    let answer = card::unpack(card, &mut symbols[0..room]);
+    mixed_symbols(mixed_answer(t, answer), symbols)
+}
+
+fn unpacked(t: Tally, card: &[u8], room: usize) -> Tally {
+    let mut symbols = [7u16; 24];
+    unpacked_into(t, card, &mut symbols, room)
+}
+
+fn mixed_packed(t: Tally, answer: Packed) -> Tally {
+    match answer {
+        Packed::Refused(cause) => counted(t, number_of(cause)),
+        Packed::Card(long) => mixed(counted(t, 0), long),
+    }
+}
+
+// Packs into the first `room` bytes of a buffer.
+fn packed_into(t: Tally, header: Header, symbols: &[u16], card: &mut [u8], room: usize) -> Tally {
+    if card.len() < room {
+        return t;
+    }
+    let answer = card::pack(header, symbols, &mut card[0..room]);
+    mixed_bytes(mixed_packed(t, answer), card)
+}
+
+fn packed(t: Tally, header: Header, symbols: &[u16], room: usize) -> Tally {
+    let mut card = [170u8; 48];
+    packed_into(t, header, symbols, &mut card, room)
+}
+
+// ---- one case of each group, by its index
+
+// The sample cut behind each byte, from no byte on.
+fn cut(t: Tally, i: usize) -> Tally {
+    let card = SAMPLE;
+    unpacked(t, front(&card, i), 8)
+}
+
+// Every byte of the sample as every byte.
+fn changed(t: Tally, i: usize) -> Tally {
+    let mut card = SAMPLE;
+    card[i / 256 % 15] = (i % 256) as u8;
+    unpacked(t, &card, 8)
+}
+
+// Two of the last six bytes changed: which comes first, a bad form or a bad value.
+fn twice(t: Tally, i: usize) -> Tally {
+    let bytes = BYTES;
+    let mut card = SAMPLE;
+    card[9 + i % 6] = bytes[i / 6 % 6];
+    card[9 + i / 36 % 6] = bytes[i / 216 % 6];
+    unpacked(t, &card, 8)
+}
+
+// The sample into a buffer of each size.
+fn rooms(t: Tally, i: usize) -> Tally {
+    let card = SAMPLE;
+    unpacked(t, &card, i)
+}
+
+fn digit(code: usize, place: usize) -> usize {
+    match place {
+        0 => code % 6,
+        1 => code / 6 % 6,
+        2 => code / 36 % 6,
+        _ => code / 216 % 6,
+    }
+}
+
+// Byte j of the sample with `count` bytes in place of byte `at`, or behind it where `at` is 15.
+fn spliced_byte(at: usize, count: usize, code: usize, j: usize) -> u8 {
+    let sample = SAMPLE;
+    let bytes = BYTES;
+    if j < at {
+        return sample[j % 15];
+    }
+    let d = j - at;
+    if d < count {
+        return bytes[digit(code, d) % 6];
+    }
+    sample[((d - count) % 15 + at % 15 + 1) % 15]
+}
+
+fn spliced(at: usize, count: usize, code: usize) -> [u8; 20] {
+    let mut card = [0u8; 20];
+    let mut j = 0;
+    while j < card.len() {
+        card[j] = spliced_byte(at, count, code, j);
+        j += 1;
+    }
+    card
+}
+
+// Numbers of one to four groups, shortest or not, cut short or not, in place of a number of the header, the first, the last symbol, or left over.
+fn formed(t: Tally, i: usize) -> Tally {
+    let count = i / 8 % 4 + 1;
+    let first = i % 8;
+    let at = if first < 6 { first } else { first + 8 };
+    let card = spliced(at, count, i / 32);
+    let end = if at < 15 { 14 + count } else { 15 + count };
+    unpacked(t, front(&card, end), 8)
+}
+
+// The sample with another header.
+fn headed(t: Tally, i: usize) -> Tally {
+    let layers = LAYERS;
+    let nodes = NODES;
+    let lengths = LENGTHS;
+    let mut card = SAMPLE;
+    card[0] = (i % 15) as u8;
+    card[1] = (i / 15 % 13) as u8;
+    card[2] = (layers[i / 195 % 5] % 256) as u8;
+    card[3] = (nodes[i / 975 % 5] % 256) as u8;
+    card[4] = (lengths[i / 4875 % 5] % 256) as u8;
+    unpacked(t, &card, 8)
+}
+
+fn read(t: Tally, bytes: &[u8], at: usize) -> Tally {
+    match card::read_number(bytes, at) {
+        Number::Read { value, next } => mixed(mixed(counted(t, 0), value), next),
+        Number::Malformed => counted(t, 6),
+    }
+}
+
+// Numbers at each place of up to four bytes, and behind them.
+fn placed(t: Tally, i: usize) -> Tally {
+    let b = BYTES;
+    let bytes = [b[i % 6], b[i / 6 % 6], b[i / 36 % 6], b[i / 216 % 6]];
+    let some = front(&bytes, i / 1296 % 5);
+    let at = i / 6480 % 7;
+    if at < 6 {
+        read(t, some, at)
+    } else {
+        read(t, some, LARGEST)
+    }
+}
+
+// Every two bytes.
+fn paired(t: Tally, i: usize) -> Tally {
+    let bytes = [(i / 256 % 256) as u8, (i % 256) as u8];
+    read(t, &bytes, 0)
+}
+
+fn header_of(n: usize, k: usize, layers: usize, node: usize, length: usize) -> Header {
+    let shape = Shape { n, k, layers };
+    Header {
+        shape,
+        node,
+        length,
+    }
+}
+
+// Packing under a header, with a symbol that is none and a buffer that is too short, or not.
+fn pack_headed(t: Tally, i: usize) -> Tally {
+    let layers = LAYERS;
+    let nodes = NODES;
+    let lengths = LENGTHS;
+    let n = if i % 15 < 14 { i % 15 } else { LARGEST };
+    let mut symbols = [256u16; 8];
+    symbols[5] = (256 + i / 24375 % 2) as u16;
+    let node = nodes[i / 975 % 5];
+    let length = lengths[i / 4875 % 5];
+    let header = header_of(n, i / 15 % 13, layers[i / 195 % 5], node, length);
+    packed(t, header, &symbols, 30 + i / 48750 % 2)
+}
+
+// One symbol of eight as each of ten.
+fn pack_symbols(t: Tally, i: usize) -> Tally {
+    let values = SYMBOLS;
+    let mut symbols = [256u16; 8];
+    symbols[i % 8] = values[i / 8 % 10];
+    packed(t, header_of(3, 1, 1, 1, 2), &symbols, 31)
+}
+
+fn some_symbols(symbols: &[u16], n: usize) -> &[u16] {
+    if symbols.len() < n {
+        symbols
+    } else {
+        &symbols[0..n]
+    }
+}
+
+// Buffers of each size, with a symbol that is none.
+fn pack_rooms(t: Tally, i: usize) -> Tally {
+    let symbols = [257u16; 10];
+    let some = some_symbols(&symbols, i % 11);
+    packed(t, header_of(3, 1, 1, 1, 2), some, i / 11 % 49)
+}
+
+// ---- groups
+
+fn one(group: usize, t: Tally, i: usize) -> Tally {
+    match group {
+        0 => cut(t, i),
+        1 => changed(t, i),
+        2 => rooms(t, i),
+        3 => formed(t, i),
+        4 => headed(t, i),
+        5 => placed(t, i),
+        6 => paired(t, i),
+        7 => pack_headed(t, i),
+        8 => pack_symbols(t, i),
+        9 => twice(t, i),
+        _ => pack_rooms(t, i),
+    }
+}
+
+fn nothing() -> Tally {
+    Tally {
+        digest: 0,
+        counts: [0u64; 9],
+    }
+}
+
+fn report(name: &[u8], t: Tally) {
+    io::write_all(STDOUT_FILENO, name);
+    io::write_all(STDOUT_FILENO, b" ");
+    io::print_decimal(STDOUT_FILENO, t.digest);
+    let counts = t.counts;
+    let mut i = 0;
+    while i < 9 {
+        io::write_all(STDOUT_FILENO, b" ");
+        io::print_decimal(STDOUT_FILENO, counts[i]);
+        i += 1;
+    }
+    io::write_all(STDOUT_FILENO, b"\n");
+}
+
+fn run(name: &[u8], group: usize, cases: usize) {
+    let mut t = nothing();
+    let mut i = 0;
+    while i < cases {
+        t = one(group, t, i);
+        i += 1;
+    }
+    report(name, t);
+}
+
+// ---- the largest card
+
+fn fill(symbols: &mut [u16]) {
+    let mut i = 0;
+    while i < symbols.len() {
+        symbols[i] = (i % 257) as u16;
+        i += 1;
+    }
+}
+
+// 61,440 symbols packed, unpacked, and unpacked again with the last byte cut off.
+fn largest() -> Tally {
+    let mut symbols = [0u16; 61440];
+    let mut card = [170u8; 122895];
+    let header = header_of(12, 10, 15, 11, 614400);
+    fill(&mut symbols);
+    let Packed::Card(long) = card::pack(header, &symbols, &mut card) else {
+        return nothing();
+    };
+    let a = mixed_bytes(mixed(nothing(), long), &card);
+    if long == 0 {
+        return a;
+    }
+    let mut back = [7u16; 61440];
+    let whole = card::unpack(front(&card, long), &mut back);
+    let b = mixed_symbols(mixed_answer(a, whole), &back);
+    let short = card::unpack(front(&card, long - 1), &mut back);
+    mixed_symbols(mixed_answer(b, short), &back)
+}
+
+fn main() {
+    run(b"cut", 0, 16);
+    run(b"changed", 1, 3840);
+    run(b"twice", 9, 1296);
+    run(b"rooms", 2, 25);
+    run(b"formed", 3, 41472);
+    run(b"headed", 4, 24375);
+    run(b"placed", 5, 45360);
+    run(b"paired", 6, 65536);
+    run(b"pack-headed", 7, 97500);
+    run(b"pack-symbols", 8, 80);
+    run(b"pack-rooms", 10, 539);
+    report(b"largest", largest());
+}

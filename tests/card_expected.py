@@ -1,0 +1,210 @@
+#!/usr/bin/env python3
+"""What crates/card_test must print, worked out from document 01 ("Cards", "Shape and symbols", "When a call turns back") alone.
+
+    python3 tests/card_expected.py > crates/card_test/stdout
+
+It shares nothing with the Rattle code or its definitions: numbers are taken apart as whole strings of bytes, and cards by joining them.
+"""
+
+BIG = 2 ** 64 - 1
+SAMPLE = bytes([3, 1, 1, 1, 2, 253, 1, 247, 1, 0, 0, 0, 0, 0, 0])
+BYTES = [0, 1, 3, 128, 129, 255]
+SYMBOLS = [0, 1, 127, 128, 255, 256, 257, 16383, 16384, 65535]
+LAYERS = [0, 1, 2, 15, 16]
+NODES = [0, 1, 2, 3, BIG]
+LENGTHS = [0, 8, 9, 127, BIG]
+
+
+# ---- the paper
+
+def numeral(v):
+    """Groups of seven bits, least first; every byte but the last has 128 added."""
+    out = []
+    while v > 127:
+        out.append(v % 128 + 128)
+        v //= 128
+    return bytes(out + [v])
+
+
+def number(data, at):
+    """(value, place behind it), or None: only the shortest form is read, of at most three groups."""
+    for size in (1, 2, 3):
+        form = data[at:at + size]
+        if len(form) == size and form[-1] < 128 and all(b > 127 for b in form[:-1]):
+            value = sum((b & 127) << (7 * i) for i, b in enumerate(form))
+            return (value, at + size) if numeral(value) == form else None
+    return None
+
+
+def header_cause(n, k, layers, node, length):
+    if not (3 <= n <= 12 and 1 <= k <= n - 2 and 1 <= layers <= 15):
+        return 1
+    if not node < n:
+        return 2
+    return 6 if length > k * layers * 2 ** n else 0
+
+
+def unpack(data, room):
+    """The number, the five header numbers, the symbols."""
+    found, at = [], 0
+    for _ in range(5):
+        read = number(data, at)
+        if read is None:
+            return 6, None, None
+        found.append(read[0])
+        at = read[1]
+    cause = header_cause(*found)
+    if cause:
+        return cause, None, None
+    size = found[2] * 2 ** found[0]
+    if room != size:
+        return 4, None, None
+    symbols = []
+    for _ in range(size):
+        read = number(data, at)
+        if read is None:
+            return 6, None, None
+        if read[0] > 256:
+            return 5, None, None
+        symbols.append(read[0])
+        at = read[1]
+    return (6, None, None) if at < len(data) else (0, found, symbols)
+
+
+def pack(header, symbols, room):
+    """The number and the card."""
+    cause = header_cause(*header)
+    if cause:
+        return cause, None
+    size = header[2] * 2 ** header[0]
+    if len(symbols) != size or room != 15 + 2 * size:
+        return 4, None
+    if max(symbols) > 256:
+        return 5, None
+    return 0, b''.join(numeral(v) for v in list(header) + list(symbols))
+
+
+# ---- the cases
+
+class Tally:
+    def __init__(self):
+        self.digest, self.counts = 0, [0] * 9
+
+    def mix(self, *xs):
+        for x in xs:
+            self.digest = (self.digest * 1000003 + x) % 4294967291
+
+    def count(self, cause):
+        self.counts[cause] += 1
+        self.mix(cause)
+
+    def unpacked(self, data, before):
+        cause, header, symbols = unpack(data, len(before))
+        self.count(cause)
+        self.mix(*(header or []))
+        return before if symbols is None else symbols
+
+    def unpack(self, data, room):
+        if room <= 24:
+            self.mix(*self.unpacked(data, [7] * room), *[7] * (24 - room))
+
+    def pack(self, header, symbols, room):
+        cause, card = pack(header, symbols, room)
+        self.count(cause)
+        if card is not None:
+            self.mix(len(card))
+        card = card or b''
+        self.mix(*card, *[170] * (48 - len(card)))
+
+    def read(self, data, at):
+        read = number(data, at)
+        self.count(6 if read is None else 0)
+        self.mix(*(read or []))
+
+    def line(self, name):
+        print(name, self.digest, *self.counts)
+
+
+def cut(t, i):
+    t.unpack(SAMPLE[:i], 8)
+
+
+def changed(t, i):
+    place, byte = divmod(i, 256)
+    t.unpack(SAMPLE[:place] + bytes([byte]) + SAMPLE[place + 1:], 8)
+
+
+def twice(t, i):
+    card = bytearray(SAMPLE)
+    card[9 + i % 6] = BYTES[i // 6 % 6]
+    card[9 + i // 36 % 6] = BYTES[i // 216]
+    t.unpack(bytes(card), 8)
+
+
+def rooms(t, i):
+    t.unpack(SAMPLE, i)
+
+
+def formed(t, i):
+    count = i // 8 % 4 + 1
+    at = [0, 1, 2, 3, 4, 5, 14, 15][i % 8]
+    code = i // 32
+    form = bytes(BYTES[code // 6 ** j % 6] for j in range(count))
+    t.unpack(SAMPLE[:at] + form + SAMPLE[at + 1:], 8)
+
+
+def headed(t, i):
+    header = [i % 15, i // 15 % 13, LAYERS[i // 195 % 5], NODES[i // 975 % 5], LENGTHS[i // 4875 % 5]]
+    t.unpack(bytes(x % 256 for x in header) + SAMPLE[5:], 8)
+
+
+def placed(t, i):
+    data = bytes([BYTES[i % 6], BYTES[i // 6 % 6], BYTES[i // 36 % 6], BYTES[i // 216 % 6]])
+    t.read(data[:i // 1296 % 5], [0, 1, 2, 3, 4, 5, BIG][i // 6480])
+
+
+def paired(t, i):
+    t.read(i.to_bytes(2, 'big'), 0)
+
+
+def pack_headed(t, i):
+    header = [[*range(14), BIG][i % 15], i // 15 % 13, LAYERS[i // 195 % 5], NODES[i // 975 % 5], LENGTHS[i // 4875 % 5]]
+    symbols = [256] * 8
+    symbols[5] += i // 24375 % 2
+    t.pack(header, symbols, 30 + i // 48750)
+
+
+def pack_symbols(t, i):
+    symbols = [256] * 8
+    symbols[i % 8] = SYMBOLS[i // 8]
+    t.pack([3, 1, 1, 1, 2], symbols, 31)
+
+
+def pack_rooms(t, i):
+    t.pack([3, 1, 1, 1, 2], [257] * (i % 11), i // 11)
+
+
+def largest():
+    t = Tally()
+    symbols = [i % 257 for i in range(61440)]
+    cause, card = pack([12, 10, 15, 11, 614400], symbols, 122895)
+    assert cause == 0
+    t.mix(len(card), *card, *[170] * (122895 - len(card)))
+    back = t.unpacked(card, [7] * 61440)
+    t.mix(*back)
+    t.mix(*t.unpacked(card[:-1], back))
+    t.line('largest')
+
+
+def main():
+    groups = [(cut, 16), (changed, 3840), (twice, 1296), (rooms, 25), (formed, 41472), (headed, 24375), (placed, 45360), (paired, 65536),
+              (pack_headed, 97500), (pack_symbols, 80), (pack_rooms, 539)]
+    for group, cases in groups:
+        t = Tally()
+        for i in range(cases):
+            group(t, i)
+        t.line(group.__name__.replace('_', '-'))
+    largest()
+
+
+main()
