@@ -1,6 +1,7 @@
 -- `shape::rises` meets its contract: the list rises where what is left of it rises from `low` on. Assumes nothing.
 use mathlib.Core.Path.{_≡_, sym, _∙_}
 use Prim.Native.Nat.{_≤_, _-_}
+use native.Mathlib.Omega.{arith}
 use borrow.Author.Needs.{needs}
 use lib.ListN.{length, drop}
 use Rattle.lists.specs.Lists.{rising}
@@ -16,15 +17,21 @@ abbrev μ-loop : tie.MeasureT-loop
 
 returns : tie.Need-returns Inv-loop μ-loop
 returns c =
-    sym (c .before .before .before .loop .inv .1 ∙ rising-low _ _ _ _ (c .before .before .loop-test .taken) (c .if1 .taken))
+    let l = c .before .before .before in
+    let a = l .before .args in
+    sym (l .loop .inv .1 ∙ rising-low (l .loop .low) (a .n) (a .list .now) (l .loop .i) (omega arith) (omega arith))
 
 returns-2 : tie.Need-returns-2 Inv-loop μ-loop
 returns-2 c =
-    sym (c .before .before .before .before .loop .inv .1 ∙ rising-high _ _ _ _ (c .before .before .before .loop-test .taken) (c .before .if1 .left) (c .if2 .taken))
+    let l = c .before .before .before .before in
+    let a = l .before .args in
+    sym (l .loop .inv .1 ∙ rising-high (l .loop .low) (a .n) (a .list .now) (l .loop .i) (omega arith) (omega arith) (omega arith))
 
 loop-again : tie.Need-loop-again Inv-loop μ-loop
 loop-again c =
-    (search needs, c .before .before .before .before .loop .inv .1 ∙ rising-pass _ _ _ _ (c .before .before .before .loop-test .taken) (c .before .if1 .left) (c .if2 .left))
+    let l = c .before .before .before .before in
+    let a = l .before .args in
+    (omega arith, l .loop .inv .1 ∙ rising-pass (l .loop .low) (a .n) (a .list .now) (l .loop .i) (omega arith) (omega arith) (omega arith))
 
 returns-3 : tie.Need-returns-3 Inv-loop μ-loop
 returns-3 c = sym (c .before .loop .inv .1 ∙ rising-end _ _ _ _ (c .loop-test .left))

@@ -24,12 +24,16 @@ cast-if1 c = omega (arith, c .shared-slice-known .given (c .before .before .loop
 returns : tie.Need-returns Inv-loop μ-loop
 unfolding symbolBad below
 returns c =
-    sym (ap not (c .before .before .before .loop .inv .1 ∙ all-fail _ _ _ (c .before .before .loop-test .taken) (le-ltb _ _ (c .if1 .taken))))
+    let l = c .before .before .before in
+    let a = l .before .args in
+    sym (ap not (l .loop .inv .1 ∙ all-fail (below (a .q)) (a .symbols .now) (l .loop .i) (omega arith) (le-ltb _ (a .q) (omega arith))))
 
 loop-again : tie.Need-loop-again Inv-loop μ-loop
 unfolding below
 loop-again c =
-    (search needs, c .before .before .before .loop .inv .1 ∙ all-pass _ _ _ (c .before .before .loop-test .taken) (lt-ltb _ _ (c .if1 .left)))
+    let l = c .before .before .before in
+    let a = l .before .args in
+    (omega arith, l .loop .inv .1 ∙ all-pass (below (a .q)) (a .symbols .now) (l .loop .i) (omega arith) (lt-ltb _ (a .q) (omega arith)))
 
 returns-2 : tie.Need-returns-2 Inv-loop μ-loop
 unfolding symbolBad
