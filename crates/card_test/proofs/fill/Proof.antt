@@ -1,4 +1,4 @@
--- `card_test::fill` meets its contract. Assumes nothing.
+-- `card_test::fill` is safe and ends: the place is within the symbols.
 use mathlib.Core.Path.{_≡_}
 use Prim.Native.Nat.{_-_, _≤_}
 use borrow.Author.Needs.{needs}

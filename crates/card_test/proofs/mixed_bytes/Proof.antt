@@ -1,4 +1,4 @@
--- `card_test::mixed_bytes` meets its contract. Assumes nothing.
+-- `card_test::mixed_bytes` is safe and ends: the place is within the bytes.
 use Prim.Native.Nat.{_-_, _≤_}
 use borrow.Author.Needs.{needs}
 use lib.ListN.{length}

@@ -1,4 +1,4 @@
--- `card_test::mixed_symbols` meets its contract. Assumes nothing.
+-- `card_test::mixed_symbols` is safe and ends: the place is within the symbols.
 use Prim.Native.Nat.{_-_, _≤_}
 use borrow.Author.Needs.{needs}
 use lib.ListN.{length}

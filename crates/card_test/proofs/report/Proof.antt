@@ -1,4 +1,4 @@
--- `card_test::report` meets its contract. Assumes nothing.
+-- `card_test::report` is safe and ends: the place is within the nine counts.
 use Prim.Native.Nat.{_-_, _≤_}
 use borrow.Author.Needs.{needs}
 use Rattle.card_test.proofs.report.Statement.{statement}

@@ -1,4 +1,4 @@
--- `card_test::run` meets its contract. Assumes nothing.
+-- `card_test::run` is safe and ends: the case is within the cases.
 use Prim.Native.Nat.{_-_, _≤_}
 use borrow.Author.Needs.{needs}
 use Rattle.card_test.proofs.run.Statement.{statement}

@@ -1,4 +1,4 @@
--- `card_test::spliced` meets its contract. Assumes nothing.
+-- `card_test::spliced` is safe and ends: the place is within the card.
 use Prim.Native.Nat.{_-_, _≤_}
 use borrow.Author.Needs.{needs}
 use Rattle.card_test.proofs.spliced.Statement.{statement}
