@@ -1,0 +1,11 @@
+-- What is promised of the functions inside the calls.
+use mathlib.Core.Path.{_≡_}
+use mathlib.Core.List.{List}
+use Prim.Native.Nat.{ℕ, _+_, _*_, _<_}
+use lib.ListN.{length, getD}
+use Rattle.shape.specs.Shape.{mostNodes}
+
+-- the first `count` entries are what as many nodes of `size` symbols hold at a place; 0 behind the end of what they hold
+pub record Gathered (count size place : ℕ) (symbols out : List ℕ) : Type 0 where
+  pub long : length out ≡ mostNodes
+  pub each : (j : ℕ) → j < count → getD out j 0 ≡ getD symbols (j * size + place) 0
