@@ -22,7 +22,7 @@ use Rattle.shape.proofs.Accepted.{shape-accepted}
 use Rattle.code.specs.declared.Column.{Column}
 use Rattle.code.specs.Code.{narrow, points}
 use Rattle.code.specs.Archive.{symbol, placePoints, restoredColumn, restoredSymbol, restored}
-use Rattle.code.specs.Steps.{Gathered, CompletedAt, Placing, RestoredPlace}
+use Rattle.code.specs.Steps.{Gathered, CompletedAt, Placing, RestoredPlace, Readable, RestoredAt}
 use Rattle.code.proofs.Restored.{Given}
 use Rattle.code.proofs.Completing.{completed-front, completed-low}
 
@@ -56,6 +56,20 @@ module _ (s : Shape) (list symbols : List ℕ) where
       → completed (narrow .modulus) (placePoints narrow s place) list (element values) ≡ restoredColumn narrow s list symbols place
   unfolding restoredColumn symbol
   gathered-restores place values count g = completed-ext (narrow .modulus) _ list _ _ (λ j h. g .each j (omega arith))
+
+  -- and so do the entries of the column that was completed
+  pub column-restored : (place two : ℕ) (values : List ℕ) (column : Column) → two ≡ 2 ^ s .n → Readable s list symbols place
+      → Gathered (s .k) (size s) place symbols values → CompletedAt (s .n) (place % two) list values column → RestoredAt s list symbols place column
+  column-restored place two values column e given g w = record {
+    never = w .never;
+    each = λ i h.
+        completed-front (s .n) (place % two) (shape-accepted s (given .shape) .n-high) list (given .up) values (g .long) (column .symbols) (w .whole) i h
+        ∙ ap (λ v. getD v i 0) (pointed ∙ gathered-restores place values (given .count) g);
+  }
+    where
+      pointed : completed (narrow .modulus) (points narrow (s .n) (place % two)) list (element values)
+          ≡ completed (narrow .modulus) (placePoints narrow s place) list (element values)
+      pointed = unfold placePoints in ap (λ a. completed (narrow .modulus) (points narrow (s .n) (place % a)) list (element values)) e
 
   -- a value that was gathered is a symbol handed in
   pub gathered-placing : (place : ℕ) (values nodes : List ℕ) → shapeBad s ≡ false → Given narrow s list symbols → length symbols ≡ s .k * size s → place < size s

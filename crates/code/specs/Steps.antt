@@ -13,7 +13,7 @@ use Rattle.column.specs.declared.Outcome.{Outcome}
 use Rattle.column.specs.declared.Outcome.the-variants.{Solved}
 use Rattle.shape.specs.declared.Shape.{Shape}
 use Rattle.shape.specs.Shape.{mostNodes, mostLayers, byteValues, size}
-use Rattle.shape.specs.Refusals.{shapeBad, nodesBad}
+use Rattle.shape.specs.Refusals.{shapeBad}
 use Rattle.code.specs.declared.Column.{Column}
 use Rattle.code.specs.Code.{narrow, points}
 use Rattle.code.specs.Archive.{placePoints, restoredColumn}
@@ -46,7 +46,8 @@ pub record RestoredPlace (s : Shape) (place : ℕ) (list values before after : L
 -- k nodes in a rising list, their k × N symbols, and a place
 pub record Readable (s : Shape) (list symbols : List ℕ) (place : ℕ) : Type 0 where
   pub shape : shapeBad s ≡ false
-  pub nodes : nodesBad (s .n) (s .k) list ≡ false
+  pub up : rising 0 (s .n) list ≡ true
+  pub count : length list ≡ s .k
   pub long : length symbols ≡ s .k * size s
   pub within : place < size s
 
