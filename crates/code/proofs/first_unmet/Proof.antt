@@ -151,7 +151,7 @@ loop2-again c =
       i2 .before .loop2 .inv .0,
       search needs,
       rw two
-      (met-more _ _ _ _ (i2 .loop2-test .taken) (rw two at (i2 .before .loop2 .inv .2)) (sym (sum-is (c .before)) ∙ c .if1 .left)),
+          (met-more _ _ _ _ (i2 .loop2-test .taken) (rw two at (i2 .before .loop2 .inv .2)) (sym (sum-is (c .before)) ∙ c .if1 .left)),
     )
 
 loop-again : tie.Need-loop-again Inv-loop2 μ-loop2 Inv-loop μ-loop Inv-equations μ-equations

@@ -15,7 +15,7 @@ use Rattle.code.specs.Code.{narrow}
 use Rattle.code.specs.Archive.{written}
 use Rattle.code.specs.Steps.{Placing, RestoredPlace}
 use Rattle.code.proofs.Written.{padding, padded-length, written-given}
-use Rattle.code.proofs.Accepted.{Written, write-accepted}
+use Rattle.code.proofs.Accepted.{WriteAccepted, write-accepted}
 use Rattle.code.proofs.Restoring.{never, gathered-placing, RestoredTo, restored-more, restored-end}
 use Rattle.code.proofs.Writing.{first-nodes, gathered-padding}
 use Rattle.code.proofs.write_all.Statement.{statement}
@@ -29,7 +29,7 @@ abbrev μ-loop : tie.MeasureT-loop
 μ-loop s transcript nodes₀ k places all place₀ nodes place = size s - place
 
 -- what is known of the input
-able : (c : tie.After-slice-known Inv-loop μ-loop) → let a = c .before .before .args in Written (a .s) (a .transcript .now) (length (a .nodes .now))
+able : (c : tie.After-slice-known Inv-loop μ-loop) → let a = c .before .before .args in WriteAccepted (a .s) (a .transcript .now) (length (a .nodes .now))
 able c = write-accepted _ _ _ (c .before .before .pre) (at-all-below byteValues _ (λ j h. omega (arith, c .before .shared-slice-known .given j)))
 
 -- the place lies within a node, and there are few nodes
