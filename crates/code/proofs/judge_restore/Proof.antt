@@ -17,44 +17,44 @@ returns c = simp (sym (c .before .shape-bad .ensures), c .if1 .taken)
 good : (c : tie.Else1) → shapeBad (c .before .before .before .before .args .s) ≡ false
 good c = sym (c .before .shape-bad .ensures) ∙ c .if1 .left
 
-returns-2 : tie.Need-returns-2
-unfolding restoreRefusal
-returns-2 c = simp (good (c .before .before), sym (c .before .nodes-bad .ensures), c .if2 .taken)
-
 size-requires : tie.Need-size-requires
-size-requires c κs = good (c .before .before)
+size-requires c κs = good (c .before)
 
-mul-if3 : tie.Need-mul-if3
-mul-if3 c =
-    let shaped = shape-accepted _ (good (c .before .before .before)) in
+mul-misfit : tie.Need-mul-misfit
+mul-misfit c =
+    let shaped = shape-accepted _ (good (c .before .before)) in
     rw (c .size .ensures) (omega (arith, mul-le-mul (shaped .k-high) (shaped .size-high)))
 
-mul-if3-2 : tie.Need-mul-if3-2
-mul-if3-2 c =
-    let shaped = shape-accepted _ (good (c .before .before .before)) in
+mul-misfit-2 : tie.Need-mul-misfit-2
+mul-misfit-2 c =
+    let shaped = shape-accepted _ (good (c .before .before)) in
     rw (c .size .ensures) (omega (arith, mul-le-mul (shaped .n-high) (shaped .size-high)))
+
+returns-2 : tie.Need-returns-2
+unfolding restoreRefusal
+returns-2 c = let b = c .before in simp (good (b .before .before), sym (b .before .nodes-bad .ensures), c .if2 .taken)
 
 returns-3 : tie.Need-returns-3
 unfolding restoreRefusal wrongLength
 returns-3 c =
-    let b = c .before in
-    simp (good (b .before .before .before), sym (b .before .before .nodes-bad .ensures), b .before .if2 .left, sym (b .size .ensures), c .if3 .taken)
+    let b = c .before .before in
+    simp (good (b .before .before), sym (b .before .nodes-bad .ensures), c .before .if2 .left, sym (b .size .ensures), c .if3 .taken)
 
 returns-4 : tie.Need-returns-4
 unfolding restoreRefusal wrongLength
 returns-4 c =
     let d = c .before .before in
-    let b = d .before in
+    let b = d .before .before in
     simp
-    (good (b .before .before .before), sym (b .before .before .nodes-bad .ensures), b .before .if2 .left, sym (b .size .ensures), d .if3 .left, sym (c .before .symbol-bad .ensures), c .if4 .taken)
+    (good (b .before .before), sym (b .before .nodes-bad .ensures), d .before .if2 .left, sym (b .size .ensures), d .if3 .left, sym (c .before .symbol-bad .ensures), c .if4 .taken)
 
 returns-5 : tie.Need-returns-5
 unfolding restoreRefusal wrongLength
 returns-5 c =
     let d = c .before .before in
-    let b = d .before in
+    let b = d .before .before in
     simp
-    (good (b .before .before .before), sym (b .before .before .nodes-bad .ensures), b .before .if2 .left, sym (b .size .ensures), d .if3 .left, sym (c .before .symbol-bad .ensures), c .if4 .left)
+    (good (b .before .before), sym (b .before .nodes-bad .ensures), d .before .if2 .left, sym (b .size .ensures), d .if3 .left, sym (c .before .symbol-bad .ensures), c .if4 .left)
 
 pub judge-restore-spec : {M : Type 1} → statement M
 judge-restore-spec =
@@ -63,10 +63,10 @@ judge-restore-spec =
     (λ c κs. search needs)
     returns
     (λ c κs. search needs)
-    returns-2
     size-requires
-    mul-if3
-    mul-if3-2
+    mul-misfit
+    mul-misfit-2
+    returns-2
     returns-3
     (λ c κs. search needs)
     returns-4

@@ -22,7 +22,7 @@ loop-holds c = (search needs, placed-none _ _ _ _)
 -- the symbol of node i at the place
 within : (c : tie.In-loop Inv-loop μ-loop) →
     let s = c .before .before in
-    c .before .loop .i * s .args .size + s .args .place < length (s .args .nodes .now)
+    c .before .loop .node * s .args .size + s .args .place < length (s .args .nodes .now)
 within c = let s = c .before .before in omega (arith, digits-lt (c .loop-test .taken) (s .pre .1), s .pre .2)
 
 mul-nodes : tie.Need-mul-nodes Inv-loop μ-loop
@@ -32,7 +32,7 @@ array-read-nodes : tie.Need-array-read-nodes Inv-loop μ-loop
 array-read-nodes c = search needs
 
 cast-nodes : tie.Need-cast-nodes Inv-loop μ-loop
-cast-nodes c = omega (arith, c .before .before .pre .3 (c .before .loop .i) (c .loop-test .taken))
+cast-nodes c = omega (arith, c .before .before .pre .3 (c .before .loop .node) (c .loop-test .taken))
 
 mul-nodes-2 : tie.Need-mul-nodes-2 Inv-loop μ-loop
 mul-nodes-2 c = omega (arith, within c)
@@ -56,7 +56,7 @@ returns : tie.Need-returns Inv-loop μ-loop
 returns c =
     let l = c .before .loop in
     let s = c .before .before in
-    let e : l .i ≡ s .args .n = omega arith in
+    let e : l .node ≡ s .args .n = omega arith in
     rw (← e) (l .inv .1)
 
 pub store-column-spec : {M : Type 1} → statement M
