@@ -19,7 +19,8 @@ use Rattle.code.specs.Refusals.{writeRefusal, restoreRefusal, openInputR
 use Rattle.code.specs.Promises.{Writes, Restores, Opens}
 use Rattle.code.proofs.Restored.{restored-codeword, restored-holds, restored-only}
 use Rattle.code.proofs.Written.{written-codeword, written-byte, written-rest}
-use Rattle.code.proofs.Accepted.{write-accepted, restore-accepted, open-accepted, open-iff, open-gives}
+use Rattle.code.proofs.Accepted.{write-accepted, restore-accepted, open-iff, open-gives}
+use Rattle.code.proofs.Sized.{sized-input}
 
 turned : (cause : Refusal) → Refused cause ≡ Done → ⊥
 turned cause e = let z : _≡_ {A = ℕ} 0 1 = cc in omega arith
@@ -73,7 +74,10 @@ module _ (s : Shape) (list symbols : List ℕ) (len : ℕ) (before : List ℕ) w
   opens-refused cause e = record {
     number = e;
     transcript = sym (afterwards-refused before _ cause _ e);
-    opens = λ input. (λ z. absurd (turned cause z), λ t. absurd (omega (arith, number-positive cause, e, open-iff s list symbols len (length before) input .1 t)));
+    opens = λ sized. (
+      λ z. absurd (turned cause z),
+      λ t. absurd (omega (arith, number-positive cause, e, open-iff s list symbols len (length before) (sized-input s list symbols len (length before) sized t) .1 t)),
+    );
     gives = λ z. absurd (turned cause z);
   }
 

@@ -15,7 +15,7 @@ use Rattle.code.specs.declared.Checked.{Checked}
 use Rattle.code.specs.declared.Checked.the-variants.{Sound, Unmet, Refused}
 use Rattle.code.specs.Code.{narrow}
 use Rattle.code.specs.Archive.{symbol, equation, Codeword, restored, written, dataOf, Holds, Transcript, firstUnmet}
-use Rattle.code.specs.Refusals.{writeRefusal, checkRefusal, restoreRefusal, openInputRefusal, openRefusal}
+use Rattle.code.specs.Refusals.{writeRefusal, checkRefusal, restoreRefusal, openSizeRefusal, openRefusal}
 
 -- ---- write
 
@@ -46,7 +46,7 @@ pub record Opens (s : Shape) (list symbols : List ℕ) (len : ℕ) (before after
   pub transcript : after ≡ afterwards (openRefusal narrow s list symbols len (length before)) before (take len (dataOf narrow s list symbols))
   -- demand 2: where shape, list and lengths are accepted, opening succeeds exactly if there are `len` bytes whose written archive has
   -- these symbols at the listed nodes
-  pub opens : openInputRefusal narrow s list symbols len (length before) 0 ≡ 0 → (answer ≡ Done) ↔ Transcript narrow s list symbols len
+  pub opens : openSizeRefusal s list symbols len (length before) ≡ 0 → (answer ≡ Done) ↔ Transcript narrow s list symbols len
   -- and then the buffer holds those bytes
   pub gives : answer ≡ Done → (t : Transcript narrow s list symbols len) → after ≡ t .bytes
 

@@ -1,0 +1,65 @@
+-- Symbols that are a written transcript's are below the modulus, so that cause 5 has no part in demand 2.
+use mathlib.Core.Path.{_≡_, sym, ap, _∙_}
+use mathlib.Core.Bool.{true, false, not, _||_}
+use mathlib.Core.List.{List}
+use Prim.Native.Nat.{ℕ, _+_, _*_, _/_, _%_, _≤_, _<_}
+use native.Mathlib.Omega.{arith}
+use borrow.Author.Tests.{ltb-false, eqb-true, not-false}
+use lib.Arith.{digits-lt}
+use lib.Dec.{ltb}
+use lib.ListN.{length, getD}
+use Rattle.lists.specs.Lists.{all, below}
+use Rattle.lists.proofs.Tests.{neither, at-all-below}
+use Rattle.lists.proofs.Members.{rising-below}
+use Rattle.lists.proofs.Places.{Place, place-of}
+use Rattle.shape.specs.declared.Shape.{Shape}
+use Rattle.shape.specs.Shape.{size, byteValues}
+use Rattle.shape.specs.Refusals.{refuse, shapeBad, nodesBad, wrongLength, symbolBad}
+use Rattle.shape.proofs.Accepted.{passed, shape-accepted, nodes-accepted}
+use Rattle.code.specs.Code.{narrow}
+use Rattle.code.specs.Archive.{symbol, written, Codeword, Transcript}
+use Rattle.code.specs.Refusals.{openInputRefusal, openSizeRefusal}
+use Rattle.code.proofs.Accepted.{narrow-accepted}
+use Rattle.code.proofs.Written.{Writable, written-codeword}
+
+module _ (s : Shape) (list symbols : List ℕ) (len room : ℕ) (sized : openSizeRefusal s list symbols len room ≡ 0) where
+  -- the causes that do not hold
+  judged : (shapeBad s ≡ false) × (nodesBad (s .n) (s .k) list ≡ false) × ((wrongLength (length symbols) (s .k * size s) || ltb (s .k * size s) len || wrongLength room len) ≡ false)
+  unfolding openSizeRefusal
+  judged =
+      let one = passed (shapeBad s) 0 _ sized in
+      let two = passed (nodesBad (s .n) (s .k) list) 1 _ (one .1) in
+      (one .0, two .0, passed (wrongLength (length symbols) (s .k * size s) || ltb (s .k * size s) len || wrongLength room len) 3 0 (two .1) .0)
+
+  lengths : (length symbols ≡ s .k * size s) × (len ≤ s .k * size s)
+  unfolding wrongLength
+  lengths =
+      let last = neither (wrongLength (length symbols) (s .k * size s) || ltb (s .k * size s) len) (wrongLength room len) (judged .2) in
+      let first = neither (wrongLength (length symbols) (s .k * size s)) (ltb (s .k * size s) len) (last .0) in
+      (eqb-true _ _ (not-false _ (first .0)), ltb-false _ _ (first .1))
+
+  module _ (t : Transcript narrow s list symbols len) where
+    able : Writable narrow s (t .bytes)
+    able = record {
+      code = narrow-accepted s (judged .0);
+      fits = omega (arith, shape-accepted s (judged .0) .k-high);
+      small = λ b h. omega (arith, t .long, t .low b (omega (arith, t .long)));
+      room = omega (arith, t .long, lengths .1);
+    }
+
+    word : Codeword narrow s (written narrow s (t .bytes))
+    word = written-codeword narrow s (t .bytes) able
+
+    each : (e : ℕ) → e < length symbols → getD symbols e 0 < narrow .modulus
+    unfolding symbol
+    each e h =
+        let p = place-of (s .k) (size s) e (omega (arith, lengths .0)) in
+        let w = nodes-accepted (s .n) (s .k) list (judged .1) in
+        let same = t .holds .held (e / size s) (e % size s) (p .row) (p .place) in
+        let low = rising-below (s .n) list (w .1) (e / size s) (omega (arith, w .0, p .row)) in
+        rw (← (same ∙ ap (λ k. getD symbols k 0) (p .whole))) (word .small _ (omega (arith, word .long, digits-lt low (p .place))))
+
+    -- the input passes
+    pub sized-input : openInputRefusal narrow s list symbols len room 0 ≡ 0
+    unfolding openInputRefusal symbolBad
+    sized-input = simp (judged .0, judged .1, judged .2, at-all-below (narrow .modulus) symbols each)
