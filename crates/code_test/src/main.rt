@@ -385,6 +385,10 @@ fn archive(
     end_line();
 }
 
+fn shape_number(i: usize) -> usize {
+    if i < 80 { SHAPES[i] } else { 0 }
+}
+
 // Case c, in the parts of the buffers that its shape asks for.
 fn case(
     c: usize,
@@ -397,10 +401,10 @@ fn case(
     if CASES <= c {
         return;
     }
-    let n = SHAPES[4 * c];
-    let k = SHAPES[4 * c + 1];
-    let layers = SHAPES[4 * c + 2];
-    let length = SHAPES[4 * c + 3];
+    let n = shape_number(4 * c);
+    let k = shape_number(4 * c + 1);
+    let layers = shape_number(4 * c + 2);
+    let length = shape_number(4 * c + 3);
     if 12 < n {
         return;
     }

@@ -9,6 +9,7 @@ use Rattle.code_test.proofs.case.Reads as reads
 use Rattle.code_test.proofs.case.Lts as lts
 use Rattle.code_test.proofs.archive.Reads as archive-reads
 use Rattle.code_test.proofs.print.Reads as print-reads
+use Rattle.code_test.proofs.shape_number.Reads as shape-number-reads
 use Rattle.code_test.proofs.shape_of.Reads as shape-of-reads
 use Rattle.code_test.proofs.times.Reads as times-reads
 use Rattle.shape.proofs.two_to.Reads as two-to-reads
@@ -16,50 +17,38 @@ use Rattle.shape.proofs.two_to.Reads as two-to-reads
 returns : tie.Need-returns
 returns c = search needs
 
-mul-n : tie.Need-mul-n
-mul-n c = search needs
+mul-shape-number : tie.Need-mul-shape-number
+mul-shape-number c = search needs
 
-mul-n-2 : tie.Need-mul-n-2
-mul-n-2 c = search needs
+shape-number-requires : tie.Need-shape-number-requires
+shape-number-requires c κs = search needs
 
-array-read-n : tie.Need-array-read-n
-array-read-n c = search needs
+mul-shape-number-2 : tie.Need-mul-shape-number-2
+mul-shape-number-2 c = search needs
 
-mul-k : tie.Need-mul-k
-mul-k c = search needs
+add-shape-number : tie.Need-add-shape-number
+add-shape-number c = search needs
 
-add-k : tie.Need-add-k
-add-k c = search needs
+shape-number-requires-2 : tie.Need-shape-number-requires-2
+shape-number-requires-2 c κs = search needs
 
-mul-k-2 : tie.Need-mul-k-2
-mul-k-2 c = search needs
+mul-shape-number-3 : tie.Need-mul-shape-number-3
+mul-shape-number-3 c = search needs
 
-array-read-k : tie.Need-array-read-k
-array-read-k c = search needs
+add-shape-number-2 : tie.Need-add-shape-number-2
+add-shape-number-2 c = search needs
 
-mul-layers : tie.Need-mul-layers
-mul-layers c = search needs
+shape-number-requires-3 : tie.Need-shape-number-requires-3
+shape-number-requires-3 c κs = search needs
 
-add-layers : tie.Need-add-layers
-add-layers c = search needs
+mul-shape-number-4 : tie.Need-mul-shape-number-4
+mul-shape-number-4 c = search needs
 
-mul-layers-2 : tie.Need-mul-layers-2
-mul-layers-2 c = search needs
+add-shape-number-3 : tie.Need-add-shape-number-3
+add-shape-number-3 c = search needs
 
-array-read-layers : tie.Need-array-read-layers
-array-read-layers c = search needs
-
-mul-length : tie.Need-mul-length
-mul-length c = search needs
-
-add-length : tie.Need-add-length
-add-length c = search needs
-
-mul-length-2 : tie.Need-mul-length-2
-mul-length-2 c = search needs
-
-array-read-length : tie.Need-array-read-length
-array-read-length c = search needs
+shape-number-requires-4 : tie.Need-shape-number-requires-4
+shape-number-requires-4 c κs = search needs
 
 returns-2 : tie.Need-returns-2
 returns-2 c = search needs
@@ -165,21 +154,17 @@ case-spec =
     tie.close
     (tie.spec
     returns
-    mul-n
-    mul-n-2
-    array-read-n
-    mul-k
-    add-k
-    mul-k-2
-    array-read-k
-    mul-layers
-    add-layers
-    mul-layers-2
-    array-read-layers
-    mul-length
-    add-length
-    mul-length-2
-    array-read-length
+    mul-shape-number
+    shape-number-requires
+    mul-shape-number-2
+    add-shape-number
+    shape-number-requires-2
+    mul-shape-number-3
+    add-shape-number-2
+    shape-number-requires-3
+    mul-shape-number-4
+    add-shape-number-3
+    shape-number-requires-4
     returns-2
     two-to-requires
     times-requires
