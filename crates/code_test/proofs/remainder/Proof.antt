@@ -3,14 +3,9 @@ use native.Mathlib.Nat.{mod-lt}
 use borrow.Author.Needs.{needs}
 use Rattle.code_test.proofs.remainder.Statement.{statement}
 use Rattle.code_test.proofs.remainder.Tie as tie
-use Rattle.code_test.proofs.remainder.Reads as reads
-use Rattle.code_test.proofs.remainder.Lts as lts
-
-rem-result : tie.Need-rem-result
-rem-result c = search needs
 
 returns : tie.Need-returns
 returns c = mod-lt _ (c .pre)
 
 pub remainder-spec : {M : Type 1} → statement M
-remainder-spec = tie.close (tie.spec rem-result returns)
+remainder-spec = tie.close (tie.spec (λ c. search needs) returns)

@@ -2,11 +2,8 @@
 use Prim.Native.Nat.{ℕ, _*_, _≤_, _%_}
 use native.Mathlib.Nat.{mul-le-mul}
 use native.Mathlib.Omega.{arith}
-use borrow.Author.Needs.{needs}
 use Rattle.code_test.proofs.times.Statement.{statement}
 use Rattle.code_test.proofs.times.Tie as tie
-use Rattle.code_test.proofs.times.Reads as reads
-use Rattle.code_test.proofs.times.Lts as lts
 
 bound : (a b : ℕ) → (a % 65536) * (b % 65536) ≤ 65535 * 65535
 bound a b =
