@@ -1,20 +1,19 @@
 -- The promises of write, restore and open: of a call that did its work, and of one that was turned back.
-use mathlib.Core.Path.{_≡_, refl, sym, ap, _∙_, subst}
+use mathlib.Core.Path.{_≡_, refl, sym, subst}
 use mathlib.Core.Bool.{true}
 use mathlib.Core.List.{List}
-use Prim.Native.Nat.{ℕ, _/_, _%_, _*_, _≤_, _<_}
+use Prim.Native.Nat.{ℕ}
 use native.Mathlib.Omega.{arith}
-use lib.ListN.{length, getD, take}
+use lib.ListN.{length, take}
 use Rattle.lists.specs.Lists.{all, below}
 use Rattle.shape.specs.declared.Shape.{Shape}
-use Rattle.shape.specs.declared.Answer.{Answer}
 use Rattle.shape.specs.declared.Answer.the-variants.{Done, Refused}
 use Rattle.shape.specs.declared.Refusal.{Refusal}
-use Rattle.shape.specs.Shape.{size, byteValues}
+use Rattle.shape.specs.Shape.{byteValues}
 use Rattle.shape.specs.Refusals.{numberOf}
-use Rattle.shape.proofs.Answers.{number-positive, answer-done, afterwards-done, afterwards-refused}
+use Rattle.shape.proofs.Answers.{number-positive, afterwards-done, afterwards-refused}
 use Rattle.code.specs.Code.{narrow}
-use Rattle.code.specs.Archive.{symbol, restored, written, dataOf, Transcript}
+use Rattle.code.specs.Archive.{restored, written, dataOf}
 use Rattle.code.specs.Refusals.{writeRefusal, restoreRefusal, openInputRefusal, openRefusal}
 use Rattle.code.specs.Promises.{Writes, Restores, Opens}
 use Rattle.code.proofs.Restored.{restored-codeword, restored-holds, restored-only}

@@ -2,14 +2,13 @@
 use mathlib.Core.Path.{_≡_, refl, sym, ap, _∙_, subst}
 use mathlib.Core.Bool.{false}
 use mathlib.Core.List.{List}
-use Prim.Native.Nat.{ℕ, _+_, _*_, _/_, _%_, _^_, _≤_, _<_}
+use Prim.Native.Nat.{ℕ, _+_, _*_, _/_, _%_, _^_, _<_}
 use native.Mathlib.Omega.{arith}
 use lib.Arith.{digits-lt}
 use lib.ListN.{length, getD}
 use Rattle.lists.specs.Lists.{tabulate}
 use Rattle.lists.specs.Rows.{Placed}
-use Rattle.lists.proofs.Tables.{tabulate-ext}
-use Rattle.lists.proofs.Rows.{placed-same, Columns, columns-none, columns-more, columns-end}
+use Rattle.lists.proofs.Rows.{placed-same, Columns, columns-more, columns-end}
 use Rattle.column.specs.Column.{completed}
 use Rattle.column.specs.Solving.{element}
 use Rattle.column.specs.declared.Outcome.{Outcome}

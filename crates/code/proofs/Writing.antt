@@ -1,14 +1,12 @@
 -- Writing a place at a time: restoring from nodes 0 to k-1, which hold the bytes and zeros.
 use mathlib.Core.Path.{_≡_, refl, sym, ap, _∙_}
-use mathlib.Core.Bool.{true}
 use mathlib.Core.List.{List, [], _∷_}
-use Prim.Native.Nat.{ℕ, zero, suc, _+_, _*_, _≤_, _<_}
+use Prim.Native.Nat.{ℕ, zero, suc, _+_, _*_, _≤_}
 use native.Mathlib.Omega.{arith}
-use lib.ListN.{length, getD, take}
-use Rattle.lists.specs.Lists.{range, all, below}
-use Rattle.lists.proofs.Tests.{at-all-below}
+use lib.ListN.{take}
+use Rattle.lists.specs.Lists.{range}
 use Rattle.shape.specs.declared.Shape.{Shape}
-use Rattle.shape.specs.Shape.{mostNodes, size, byteValues}
+use Rattle.shape.specs.Shape.{mostNodes, size}
 use Rattle.code.specs.Code.{Code}
 use Rattle.code.specs.Steps.{Gathered}
 use Rattle.code.proofs.Written.{Writable, padding, padded-at}

@@ -7,10 +7,6 @@ use Rattle.code.specs.Refusals.{checkRefusal}
 use Rattle.code.proofs.Checking.{checks-looked, checks-refused}
 use Rattle.code.proofs.check.Statement.{statement}
 use Rattle.code.proofs.check.Tie as tie
-use Rattle.code.proofs.check.Reads as reads
-use Rattle.code.proofs.check.Lts as lts
-use Rattle.code.proofs.first_unmet.Reads as first-unmet-reads
-use Rattle.code.proofs.judge_check.Reads as judge-check-reads
 
 -- the judging found no cause
 accepted : (c : tie.After-enum-told) → let a = c .before .before .before .before .args in checkRefusal narrow (a .s) (a .nodes .now) ≡ 0

@@ -1,5 +1,5 @@
 -- `code::completed_at` meets its contract: the points at a differ, so `complete` serves. Assumes nothing.
-use mathlib.Core.Path.{_≡_, sym, ap, _∙_}
+use mathlib.Core.Path.{sym, ap, _∙_}
 use Prim.Native.Nat.{_≤_}
 use native.Mathlib.Omega.{arith}
 use borrow.Author.Needs.{needs}
@@ -9,10 +9,6 @@ use Rattle.code.proofs.NodePoints.{points-length}
 use Rattle.code.proofs.Completing.{room, known, completed-as, completed-count}
 use Rattle.code.proofs.completed_at.Statement.{statement}
 use Rattle.code.proofs.completed_at.Tie as tie
-use Rattle.code.proofs.completed_at.Reads as reads
-use Rattle.code.proofs.completed_at.Lts as lts
-use Rattle.code.proofs.points_at.Reads as points-at-reads
-use Rattle.column.proofs.complete.Reads as complete-reads
 
 -- a value for each listed node
 each : (c : tie.Start) → length (c .args .list .now) ≤ length (c .args .t4)

@@ -1,11 +1,8 @@
 -- `code::first_unmet` meets its contract: at each level of the loops every equation before this one is met. Assumes nothing.
-use mathlib.Core.Path.{_≡_, refl, sym, ap, ap₂, _∙_}
-use mathlib.Core.List.{List}
+use mathlib.Core.Path.{_≡_, refl, sym, ap, _∙_}
 use Prim.Native.Nat.{ℕ, _≤_, _<_, _+_, _-_, _*_, _^_}
-use native.Mathlib.Nat.{mul-le-mul}
 use native.Mathlib.Omega.{arith}
 use borrow.Author.Needs.{needs}
-use borrow.Author.Count.{below-none, below-more}
 use lib.Arith.{digits-lt}
 use lib.ListN.{length}
 use lib.Seq.{length-take-le}
@@ -19,12 +16,6 @@ use Rattle.code.proofs.Gathering.{gathered-equation}
 use Rattle.code.proofs.Checking.{MetBelow, met-more, sound-when, unmet-when}
 use Rattle.code.proofs.first_unmet.Statement.{statement}
 use Rattle.code.proofs.first_unmet.Tie as tie
-use Rattle.code.proofs.first_unmet.Reads as reads
-use Rattle.code.proofs.first_unmet.Lts as lts
-use Rattle.code.proofs.gathered.Reads as gathered-reads
-use Rattle.code.proofs.points_at.Reads as points-at-reads
-use Rattle.column.proofs.parity.Reads as parity-reads
-use Rattle.shape.proofs.two_to.Reads as two-to-reads
 
 -- the shape of these numbers
 abbrev shape : ℕ → ℕ → ℕ → Shape

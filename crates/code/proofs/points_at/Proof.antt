@@ -1,5 +1,5 @@
 -- `code::points_at` meets its contract: the first n entries of the array are lent. Assumes nothing.
-use mathlib.Core.Path.{_≡_, sym, ap, _∙_}
+use mathlib.Core.Path.{sym, ap, _∙_}
 use native.Mathlib.Omega.{arith}
 use borrow.Author.Needs.{needs}
 use lib.ListN.{length, length-append, length-drop}

@@ -5,12 +5,6 @@ use Rattle.code.proofs.Restoring.{never, store-small, place-restored}
 use borrow.Author.Needs.{needs}
 use Rattle.code.proofs.restore_place.Statement.{statement}
 use Rattle.code.proofs.restore_place.Tie as tie
-use Rattle.code.proofs.restore_place.Reads as reads
-use Rattle.code.proofs.restore_place.Lts as lts
-use Rattle.code.proofs.completed_at.Reads as completed-at-reads
-use Rattle.code.proofs.store_column.Reads as store-column-reads
-use Rattle.shape.proofs.size.Reads as size-reads
-use Rattle.shape.proofs.two_to.Reads as two-to-reads
 
 two-to-requires : tie.Need-two-to-requires
 two-to-requires c κs = shape-accepted _ (c .before .before .pre .shape) .n-high

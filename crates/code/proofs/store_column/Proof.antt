@@ -25,12 +25,6 @@ within : (c : tie.In-loop Inv-loop μ-loop) →
     c .before .loop .node * s .args .size + s .args .place < length (s .args .nodes .now)
 within c = let s = c .before .before in omega (arith, digits-lt (c .loop-test .taken) (s .pre .1), s .pre .2)
 
-mul-nodes : tie.Need-mul-nodes Inv-loop μ-loop
-mul-nodes c = search needs
-
-array-read-nodes : tie.Need-array-read-nodes Inv-loop μ-loop
-array-read-nodes c = search needs
-
 cast-nodes : tie.Need-cast-nodes Inv-loop μ-loop
 cast-nodes c = omega (arith, c .before .before .pre .3 (c .before .loop .node) (c .loop-test .taken))
 
@@ -66,8 +60,8 @@ store-column-spec =
     Inv-loop
     μ-loop
     loop-holds
-    mul-nodes
-    array-read-nodes
+    (λ c. search needs)
+    (λ c. search needs)
     cast-nodes
     mul-nodes-2
     add-nodes

@@ -1,5 +1,5 @@
 -- `code::write_all` meets its contract: at the places passed the nodes hold the written columns. Assumes nothing.
-use mathlib.Core.Path.{_≡_, refl, sym, _∙_, subst}
+use mathlib.Core.Path.{_≡_, refl, sym, _∙_}
 use Prim.Native.Nat.{_-_, _≤_, _<_}
 use native.Mathlib.Omega.{arith}
 use borrow.Author.Needs.{needs}
@@ -13,7 +13,6 @@ use Rattle.shape.specs.Shape.{size, byteValues, mostNodes}
 use Rattle.shape.proofs.Accepted.{shape-accepted}
 use Rattle.code.specs.Code.{narrow}
 use Rattle.code.specs.Archive.{written}
-use Rattle.code.specs.Steps.{Placing, RestoredPlace}
 use Rattle.code.proofs.Written.{padding, padded-length, written-given}
 use Rattle.code.proofs.Accepted.{WriteAccepted, write-accepted}
 use Rattle.code.proofs.Restoring.{never, gathered-placing, RestoredTo, restored-more, restored-end}
