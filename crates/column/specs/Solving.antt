@@ -1,16 +1,16 @@
 -- Solving r equations in r unknowns: what is promised of `solve` and `complete`, and of the steps inside them.
 use mathlib.Core.Path.{_≡_}
-use mathlib.Core.Bool.{true}
+use mathlib.Core.Bool.{true, false}
 use mathlib.Core.List.{List, []}
 use Prim.Native.Nat.{ℕ, zero, suc, _+_, _*_, _-_, _%_, _^_, _<_, _≤_}
 use lib.ListN.{length, getD, take}
-use Rattle.lists.specs.Lists.{rising}
+use Rattle.lists.specs.Lists.{rising, member}
 use Rattle.lists.specs.Sums.{sum}
 use Rattle.field.specs.Residues.{Prime, minus, solution}
 use Rattle.column.specs.declared.Outcome.{Outcome}
 use Rattle.column.specs.declared.Outcome.the-variants.{Solved, ZeroDivisor}
 use Rattle.column.specs.declared.Solution.{Solution}
-use Rattle.column.specs.Column.{Points, completed}
+use Rattle.column.specs.Column.{Points, missing, completed}
 
 -- the most entries of a column: n + 1 of a first step
 abbrev pub mostEntries : ℕ
@@ -34,17 +34,23 @@ pub record Vandermonde (q : ℕ) (points : List ℕ) (powers : List (List ℕ)) 
 
 -- the Vandermonde equations of distinct points are solved, and the values are the solution
 pub record Solves (q r : ℕ) (powers : List (List ℕ)) (right : List ℕ) (s : Solution) : Type 0 where
+  pub long : length (s .values) ≡ mostEntries
   pub solved : (points : List ℕ) → length points ≡ r → Prime q → Points q points → Vandermonde q points powers
       → (s .outcome ≡ Solved) × (take r (s .values) ≡ solution q points (element right))
 
 -- what `complete` is given: a prime, distinct points, a rising list of entries and a value for each of them
-pub record Completable (q : ℕ) (points list values column : List ℕ) : Type 0 where
+pub record Known (q : ℕ) (points list values : List ℕ) : Type 0 where
   pub prime : Prime q
   pub few : length points ≤ mostEntries
   pub apart : Points q points
   pub up : rising 0 (length points) list ≡ true
   pub each : length values ≡ length list
-  pub room : length column ≡ length points
+
+-- no zero divisor, and the values at the other entries
+pub record Missing (q : ℕ) (points list values : List ℕ) (s : Solution) : Type 0 where
+  pub long : length (s .values) ≡ mostEntries
+  pub never : s .outcome ≡ Solved
+  pub found : take (length points - length list) (s .values) ≡ missing q points list (element values)
 
 -- no zero divisor, and the whole column
 pub record Completes (q : ℕ) (points list values column : List ℕ) (outcome : Outcome) : Type 0 where
@@ -62,9 +68,9 @@ unfoldable pub eliminated : ℕ → (ℕ → ℕ) → ℕ → (ℕ → ℕ) → 
 eliminated q points zero side = side
 eliminated q points (suc i) side = less q (points i) (eliminated q points i side)
 
--- the term of the d-th unknown from `start` on, in equation i
+-- the term of the d-th value from `start` on, in equation t
 unfoldable pub term : List (List ℕ) → List ℕ → ℕ → ℕ → ℕ → ℕ
-term triangle values i start d = cell triangle (start + d) i * element values (start + d)
+term rows values t start d = cell rows (start + d) t * element values (start + d)
 
 -- value i is below the modulus, and meets equation i of those of which equation i has the unknowns from i on
 pub record Meets (q r : ℕ) (triangle : List (List ℕ)) (right values : List ℕ) (i : ℕ) : Type 0 where
@@ -76,3 +82,9 @@ pub record Substituted (q r : ℕ) (triangle : List (List ℕ)) (right : List �
   pub long : length (s .values) ≡ mostEntries
   pub stopped : s .outcome ≡ ZeroDivisor → (i : ℕ) × (i < r) × (cell triangle i i ≡ 0)
   pub meets : Prime q → ((i : ℕ) → i < r → cell triangle i i < q) → s .outcome ≡ Solved → (i : ℕ) → i < r → Meets q r triangle right (s .values) i
+
+-- values stored at listed entries of a column, the other entries as they were
+pub record Scattered (list values before after : List ℕ) : Type 0 where
+  pub long : length after ≡ length before
+  pub listed : (j : ℕ) → j < length list → element after (element list j) ≡ element values j
+  pub unlisted : (i : ℕ) → member i list ≡ false → element after i ≡ element before i

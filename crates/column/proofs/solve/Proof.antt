@@ -22,6 +22,7 @@ returns : tie.Need-returns
 returns c =
     let s = c .before .before .before .before .args in
     record {
+      long = c .substituted .ensures .long;
       solved = λ points e prime apart v.
           solved-by (s .q) prime points apart (s .r) e (c .before .before .before .before .pre .1) (s .powers) v (s .right) (c .before .before .before .points-of .result) _ _ (c .before .before .before .points-of .ensures) (c .before .before .triangle .ensures)
           (c .before .eliminated .ensures) (c .substituted .result) (c .substituted .ensures);

@@ -14,7 +14,7 @@ use Rattle.column.proofs.substituted.Statement.{statement}
 use Rattle.column.proofs.substituted.Tie as tie
 use Rattle.column.proofs.substituted.Reads as reads
 use Rattle.column.proofs.substituted.Lts as lts
-use Rattle.column.proofs.behind.Reads as behind-reads
+use Rattle.column.proofs.part_of.Reads as part-of-reads
 use Rattle.field.proofs.inverse.Reads as inverse-reads
 use Rattle.field.proofs.multiply.Reads as multiply-reads
 use Rattle.field.proofs.subtract.Reads as subtract-reads
@@ -64,8 +64,20 @@ mul-subtract c = search needs
 array-read-subtract : tie.Need-array-read-subtract Inv-loop μ-loop
 array-read-subtract c = search needs
 
-behind-requires : tie.Need-behind-requires Inv-loop μ-loop
-behind-requires c κs = search needs
+add-part-of : tie.Need-add-part-of Inv-loop μ-loop
+add-part-of c = search needs
+
+sub-part-of : tie.Need-sub-part-of Inv-loop μ-loop
+sub-part-of c = search needs
+
+sub-part-of-2 : tie.Need-sub-part-of-2 Inv-loop μ-loop
+sub-part-of-2 c = search needs
+
+slice-aggregate-part-of : tie.Need-slice-aggregate-part-of Inv-loop μ-loop
+slice-aggregate-part-of c = search needs
+
+part-of-requires : tie.Need-part-of-requires Inv-loop μ-loop
+part-of-requires c κs = search needs
 
 subtract-requires : tie.Need-subtract-requires Inv-loop μ-loop
 subtract-requires c κs = search needs
@@ -87,8 +99,8 @@ loop-less c = search needs
 
 loop-again : tie.Need-loop-again Inv-loop μ-loop
 loop-again c =
-    let l = c .before .before .before .before .before .before .before .loop in
-    let s = c .before .before .before .before .before .before .before .before .args in (
+    let l = c .before .before .before .before .before .before .before .before .loop in
+    let s = c .before .before .before .before .before .before .before .before .before .args in (
       search needs,
       simp length-set (l .inv .1),
       λ prime diagonal.
@@ -96,9 +108,9 @@ loop-again c =
           (λ k h. l .inv .2 prime diagonal k (omega arith))
           (c .multiply .ensures .0)
           (divided-back (s .q) prime _ _ _ _ _ _
-          (c .before .before .subtract .ensures .1 ∙ ap (minus (s .q) (element (s .t4) (l .i - 1))) (c .before .before .before .behind .ensures .1))
+          (c .before .before .subtract .ensures .1 ∙ ap (minus (s .q) (element (s .t4) (l .i - 1))) (c .before .before .before .part-of .ensures .1))
           (c .multiply .ensures .1)
-          (c .before .inverse .ensures .one prime (omega (arith, c .before .before .before .before .if1 .left)) (diagonal (l .i - 1) (omega arith)))),
+          (c .before .inverse .ensures .one prime (omega (arith, c .before .before .before .before .before .if1 .left)) (diagonal (l .i - 1) (omega arith)))),
     )
 
 returns-2 : tie.Need-returns-2 Inv-loop μ-loop
@@ -123,7 +135,11 @@ substituted-spec =
     returns
     mul-subtract
     array-read-subtract
-    behind-requires
+    add-part-of
+    sub-part-of
+    sub-part-of-2
+    slice-aggregate-part-of
+    part-of-requires
     subtract-requires
     inverse-requires
     multiply-requires

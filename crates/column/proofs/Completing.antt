@@ -1,0 +1,85 @@
+-- What the parts of `missing` and `complete` give together: the values at the other entries, and the whole column.
+use mathlib.Core.Path.{_≡_, refl, sym, ap, ap₂, _∙_}
+use mathlib.Core.Bool.{true, false}
+use mathlib.Core.List.{List, map}
+use Prim.Native.Nat.{ℕ, _+_, _-_, _*_, _%_, _^_, _<_}
+use native.Mathlib.Nat.{zero-add}
+use native.Mathlib.Omega.{arith}
+use lib.ListN.{length, getD, take, length-map}
+use Rattle.lists.specs.Lists.{member, others, rising}
+use Rattle.lists.specs.Sums.{sum}
+use Rattle.lists.proofs.Tables.{map-at}
+use Rattle.lists.proofs.Sums.{sum-mod}
+use Rattle.lists.proofs.Members.{rises-rising, rising-below, member-of}
+use Rattle.lists.proofs.Others.{others-rise, others-length, others-at, others-apart}
+use Rattle.field.specs.Residues.{minus, solution}
+use Rattle.field.proofs.Residues.{mod-mul-mod}
+use Rattle.field.proofs.Bridge.{minus-same, solution-ext}
+use Rattle.column.specs.Column.{listedSum, missing, completed}
+use Rattle.column.specs.Solving.{element, cell, powerOf, term, Vandermonde, Solves, Known, Missing, Scattered, Completes}
+use Rattle.column.specs.declared.Outcome.the-variants.{Solved}
+use Rattle.column.specs.declared.Solution.{Solution}
+use Rattle.column.proofs.Solved.{points-picked}
+use Rattle.column.proofs.Column.{completed-by}
+
+module _ (q : ℕ) (ps list values : List ℕ) (w : Known q ps list values) where
+  abbrev rest : List ℕ
+  rest = others (length ps) list
+
+  -- as many as there are equations
+  pub rest-length : length (others (length ps) list) ≡ length ps - length list
+  rest-length = omega (arith, others-length (length ps) list (w .up))
+
+  module _ (r : ℕ) (r-is : r ≡ length (others (length ps) list)) (known want right : List ℕ) (rows wanted : List (List ℕ)) (s : Solution)
+      (known-are : (j : ℕ) → j < length list → element known j ≡ element ps (element list j))
+      (rows-are : (j t : ℕ) → j < length list → t < r → cell rows j t ≡ powerOf q (element known j) t)
+      (right-is : (t : ℕ) → t < r → element right t ≡ minus q 0 (sum (length values) (term rows values t 0)))
+      (want-are : (j : ℕ) → j < r → element want j ≡ element ps (element (others (length ps) list) j))
+      (wanted-are : (j t : ℕ) → j < r → t < r → cell wanted j t ≡ powerOf q (element want j) t)
+      (solves : Solves q r wanted right s) where
+    abbrev xs : List ℕ
+    xs = map (λ i. getD ps i 0) rest
+
+    count : length xs ≡ r
+    count = length-map rest _ ∙ sym r-is
+
+    equations : Vandermonde q xs wanted
+    equations = record {
+      power = λ j t h k.
+          wanted-are j t (omega (arith, count)) (omega (arith, count))
+          ∙ ap (λ x. powerOf q x t) (want-are j (omega (arith, count)) ∙ sym (map-at (λ i. getD ps i 0) rest j 0 0 (omega (arith, count))));
+    }
+
+    -- the known part of equation t
+    part : (t : ℕ) → t < r → sum (length values) (term rows values t 0) % q ≡ listedSum ps list (element values) t % q
+    unfolding listedSum term
+    part t h =
+        ap (λ n. sum n (term rows values t 0) % q) (w .each)
+        ∙ sum-mod q (length list) _ _ (λ j l.
+        ap (λ i. (cell rows i t * element values i) % q) (zero-add j)
+        ∙ ap (λ x. (x * element values j) % q) (rows-are j t l h ∙ ap (λ x. powerOf q x t) (known-are j l))
+        ∙ mod-mul-mod _ (element values j) q)
+
+    pub missing-by : Missing q ps list values s
+    missing-by = record {
+      long = solves .long;
+      never = both .0;
+      found =
+          ap (λ n. take n (s .values)) (sym rest-length ∙ sym r-is) ∙ both .1
+          ∙ solution-ext q xs _ _ (λ t l. right-is t (omega (arith, count)) ∙ minus-same q 0 _ _ (part t (omega (arith, count))))
+          ∙ (unfold missing in refl);
+    }
+      where
+        both : (s .outcome ≡ Solved) × (take r (s .values) ≡ solution q xs (element right))
+        both = solves .solved xs count (w .prime) (points-picked q ps (w .apart) 0 rest (others-rise (length ps) list (w .up))) equations
+
+  -- the other entries rise
+  pub rest-rising : rising 0 (length ps) (others (length ps) list) ≡ true
+  rest-rising = rises-rising 0 (length ps) rest (others-rise (length ps) list (w .up))
+
+  pub whole-by : (before column after found : List ℕ) → length before ≡ length ps → Scattered list values before column
+      → Scattered (others (length ps) list) found column after → found ≡ missing q ps list (element values) → after ≡ completed q ps list (element values)
+  whole-by before column after found long first second same =
+      completed-by q (w .prime) ps (w .apart) list (w .up) (element values) after (second .long ∙ first .long ∙ long)
+      (λ j h. second .unlisted (element list j) (others-apart (length ps) list (w .up) (element list j) (member-of list j h)) ∙ first .listed j h)
+      (λ j h. second .listed j h ∙ ap (λ f. element f j) same)

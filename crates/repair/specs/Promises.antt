@@ -1,0 +1,19 @@
+-- What is promised of the four calls: the number, both ways, and each lent buffer when the call returns.
+use mathlib.Core.Path.{_≡_}
+use mathlib.Core.List.{List}
+use Prim.Native.Nat.{ℕ}
+use lib.ListN.{length}
+use Rattle.lists.specs.Lists.{position}
+use Rattle.shape.specs.declared.Shape.{Shape}
+use Rattle.shape.specs.declared.Answer.{Answer}
+use Rattle.shape.specs.Refusals.{answerNumber, afterwards}
+use Rattle.code.specs.Code.{narrow}
+use Rattle.repair.specs.Steps.{helperMessage}
+use Rattle.repair.specs.Refusals.{messageRefusal}
+
+-- "A helper makes its message": the message to the new node, from the helper's N symbols
+pub record HelperMessage (s : Shape) (dead helpers : List ℕ) (helper new : ℕ) (symbols before after : List ℕ) (answer : Answer) : Type 0 where
+  pub number : answerNumber answer ≡ messageRefusal narrow s dead helpers helper new symbols (length before)
+  pub message : after
+      ≡ afterwards (messageRefusal narrow s dead helpers helper new symbols (length before)) before
+      (helperMessage narrow s dead (position new dead) symbols)
