@@ -26,6 +26,7 @@ use Rattle.repair.proofs.Sizes.{batch-pos, parts}
 use Rattle.repair.proofs.Ranks.{partner-lt}
 use Rattle.repair.proofs.Dead.{Dead, node-below, flip-node-lt}
 use Rattle.repair.proofs.Turns.{class-turns}
+use Rattle.repair.proofs.Sums.{sumAt-lt}
 use Rattle.repair.proofs.Passes.{Here}
 
 -- ---- places
@@ -44,11 +45,11 @@ module _ (s : Shape) (dead : List ℕ) (w b a w′ b′ a′ : ℕ) (h : w < bat
         sym (digits-mod (batch dead * b + w) k) ∙ ap (λ z. z % P) e ∙ digits-mod (batch dead * b′ + w′) k′,
       )
 
-sum-first : (s : Shape) (dead : List ℕ) (u b a : ℕ) → sumPlace s dead u 0 b a ≡ placeOf s dead 0 b a
+pub sum-first : (s : Shape) (dead : List ℕ) (u b a : ℕ) → sumPlace s dead u 0 b a ≡ placeOf s dead 0 b a
 unfolding sumPlace
 sum-first s dead u b a = refl
 
-sum-other : (s : Shape) (dead : List ℕ) (u b a : ℕ) → sumPlace s dead u 1 b a ≡ placeOf s dead (partner dead u) b (flip (node dead u) a)
+pub sum-other : (s : Shape) (dead : List ℕ) (u b a : ℕ) → sumPlace s dead u 1 b a ≡ placeOf s dead (partner dead u) b (flip (node dead u) a)
 unfolding sumPlace
 sum-other s dead u b a = refl
 
@@ -114,6 +115,15 @@ module _ {s : Shape} {dead : List ℕ} (D : Dead s dead) (u : ℕ) (l : u < leng
   sums-apart b a b′ a′ S S′ zero h e = first-other b′ a′ b a S′ S (sym e)
   sums-apart b a b′ a′ S S′ (suc zero) h e = first-other b a b′ a′ S S′ e
   sums-apart b a b′ a′ S S′ (suc (suc w)) h e = absurd (omega arith)
+
+-- sums that agree leave the same
+pub crossed-sums : (c : Code) {s : Shape} {dead : List ℕ} → Dead s dead → (u which : ℕ) (f g : ℕ → ℕ) (S T : List ℕ)
+    → ((x : ℕ) → x < messageSize s dead → f x ≡ g x) → Crossed c s dead u which f S T → Crossed c s dead u which g S T
+crossed-sums c {s} {dead} D u which f g S T e C = record {
+  long = C .long;
+  each = λ b a Q. C .each b a Q ∙ ap (λ z. minus (c .modulus) z (sumSymbol s dead u (1 - which) b a S)) (e (sumAt s dead u b a) (sumAt-lt D u b a Q));
+  rest = C .rest;
+}
 
 -- ---- loops over the places of all batches' layers 0
 

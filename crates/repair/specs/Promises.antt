@@ -8,8 +8,8 @@ use Rattle.shape.specs.declared.Shape.{Shape}
 use Rattle.shape.specs.declared.Answer.{Answer}
 use Rattle.shape.specs.Refusals.{answerNumber, afterwards}
 use Rattle.code.specs.Code.{narrow}
-use Rattle.repair.specs.Steps.{helperMessage}
-use Rattle.repair.specs.Refusals.{messageRefusal}
+use Rattle.repair.specs.Steps.{helperMessage, contents}
+use Rattle.repair.specs.Refusals.{messageRefusal, secondStepRefusal}
 
 -- "A helper makes its message": the message to the new node, from the helper's N symbols
 pub record HelperMessage (s : Shape) (dead helpers : List ℕ) (helper new : ℕ) (symbols before after : List ℕ) (answer : Answer) : Type 0 where
@@ -17,3 +17,10 @@ pub record HelperMessage (s : Shape) (dead helpers : List ℕ) (helper new : ℕ
   pub message : after
       ≡ afterwards (messageRefusal narrow s dead helpers helper new symbols (length before)) before
       (helperMessage narrow s dead (position new dead) symbols)
+
+-- "own pairs and the h−1 messages received (senders rising) give all N symbols"
+pub record SecondStep (s : Shape) (dead helpers : List ℕ) (new : ℕ) (pairs received before after : List ℕ) (answer : Answer) : Type 0 where
+  pub number : answerNumber answer ≡ secondStepRefusal narrow s dead helpers new pairs received (length before)
+  pub symbols : after
+      ≡ afterwards (secondStepRefusal narrow s dead helpers new pairs received (length before)) before
+      (contents narrow s dead (position new dead) pairs received)

@@ -7,8 +7,8 @@ use Rattle.field.specs.Residues.{minus}
 use Rattle.shape.specs.declared.Shape.{Shape}
 use Rattle.shape.specs.Shape.{size}
 use Rattle.code.specs.Code.{Code}
-use Rattle.repair.specs.Classes.{Sum, sumAt, sumPlace, messageSize}
-use Rattle.repair.specs.Steps.{place}
+use Rattle.repair.specs.Classes.{rankClass, turningRank, Sum, sumAt, sumPlace, messageSize}
+use Rattle.repair.specs.Steps.{place, contents}
 
 -- the symbol at the first (which = 0) or other (1) place of the sum of batch b and a
 unfoldable pub sumSymbol : Shape → List ℕ → ℕ → ℕ → ℕ → ℕ → List ℕ → ℕ
@@ -30,3 +30,12 @@ pub record Crossed (c : Code) (s : Shape) (dead : List ℕ) (u which : ℕ) (sum
   pub each : (b a : ℕ) → Sum s dead u b a
       → sumSymbol s dead u which b a after ≡ minus (c .modulus) (sums (sumAt s dead u b a)) (sumSymbol s dead u (1 - which) b a before)
   pub rest : (x : ℕ) → ((b a : ℕ) → Sum s dead u b a → sumPlace s dead u which b a ≡ x → ⊥) → getD after x 0 ≡ getD before x 0
+
+-- what rank v first does: nothing where its class is 0, else it gets class 0 of layer 0 from the rank that turns its class
+pub record Begun (c : Code) (s : Shape) (dead : List ℕ) (v : ℕ) (received before after : List ℕ) (turning : ℕ) : Type 0 where
+  pub own : rankClass dead v ≡ 0 → (turning ≡ length dead) × (after ≡ before)
+  pub turned : (rankClass dead v ≡ 0 → ⊥) → (turning ≡ turningRank dead (rankClass dead v)) × Crossed c s dead (turningRank dead (rankClass dead v)) 0 (sentBy s dead v received (turningRank dead (rankClass dead v))) before after
+
+-- the second step in place: from its own pairs at their places, and the messages received, all N symbols of rank v
+pub record Recovers (c : Code) (s : Shape) (dead : List ℕ) (v : ℕ) (received before after : List ℕ) : Type 0 where
+  pub whole : (pairs : List ℕ) → Paired s dead v pairs before → after ≡ contents c s dead v pairs received
