@@ -2,24 +2,25 @@
 use mathlib.Core.Path.{_≡_, refl, sym, ap, _∙_}
 use mathlib.Core.Bool.{Bool, true, false, not, _||_}
 use mathlib.Core.List.{List}
-use Prim.Native.Nat.{ℕ, zero, suc, _+_, _%_, _≤_, _<_}
+use Prim.Native.Nat.{ℕ, zero, suc, _+_, _-_, _*_, _/_, _%_, _^_, _≤_, _<_}
+use native.Mathlib.Nat.{mul-le-mul, div-le-self, le-trans}
 use native.Mathlib.Omega.{arith}
 use borrow.Author.Tests.{eqb-true, not-false}
-use lib.ListN.{length}
-use Rattle.lists.specs.Lists.{member, outside, rising}
-use Rattle.lists.proofs.Tests.{neither}
+use lib.ListN.{length, getD}
+use Rattle.lists.specs.Lists.{all, member, outside, rising}
+use Rattle.lists.proofs.Tests.{neither, all-at}
 use Rattle.shape.specs.declared.Shape.{Shape}
-use Rattle.shape.specs.Shape.{size}
+use Rattle.shape.specs.Shape.{mostNodes, mostLayers, size}
 use Rattle.shape.specs.declared.Refusal.{Refusal}
 use Rattle.shape.specs.declared.Answer.{Answer}
 use Rattle.shape.specs.declared.Answer.the-variants.{Done, Refused}
 use Rattle.shape.specs.Refusals.{numberOf, answerNumber, afterwards, refuse, shapeBad, repairBad, layersBad, wrongLength, symbolBad}
-use Rattle.shape.proofs.Accepted.{passed, Shaped, shape-accepted, Repairable, repair-accepted, layers-accepted}
+use Rattle.shape.proofs.Accepted.{passed, Shaped, shape-accepted, Repairable, repair-accepted, layers-accepted, symbols-accepted}
 use Rattle.shape.proofs.Answers.{number-positive, afterwards-refused}
 use Rattle.code.specs.Code.{narrow}
 use Rattle.code.proofs.Accepted.{narrow-accepted}
 use Rattle.repair.specs.Classes.{batch, messageSize}
-use Rattle.repair.specs.Refusals.{listsRefusal, messageRefusal}
+use Rattle.repair.specs.Refusals.{listsRefusal, messageRefusal, firstStepRefusal, secondStepRefusal, nodeGood, wholeRefusal}
 use Rattle.repair.proofs.Dead.{Accepted}
 
 pub refuse-true : (t : Bool) (number rest : ℕ) → t ≡ true → refuse t number rest ≡ number
@@ -116,6 +117,23 @@ module _ (s : Shape) (dead helpers : List ℕ) (unnamed : Bool) where
       whole = layers-accepted (s .layers) (batch dead) (L .layers);
     }
 
+-- what the lengths that are due are made of is small
+module _ (s : Shape) (dead helpers : List ℕ) (unnamed : Bool) (L : Listed s dead helpers unnamed) where
+  pub record Small : Type 0 where
+    pub some : 1 ≤ length dead
+    pub few : s .k + length dead < s .n
+    pub n-high : s .n ≤ mostNodes
+    pub full : size s ≤ mostLayers * 2 ^ mostNodes
+
+  pub small : Small
+  small =
+      let h = shape-accepted s (L .shaped) in
+      let r = repair-accepted s dead helpers (L .lists) in
+      record { some = r .some-dead; few = r .few-dead; n-high = h .n-high; full = h .size-high }
+
+  pub share-fits : (x full : ℕ) → x ≤ mostNodes * mostNodes → full ≡ size s → x * (full / (length dead + 1)) ≤ mostNodes * mostNodes * (mostLayers * 2 ^ mostNodes)
+  share-fits x full h e = mul-le-mul {m₂ = mostLayers * 2 ^ mostNodes} h (le-trans (div-le-self full (length dead + 1)) (rw e (small .full)))
+
 -- a length that is not wrong
 pub right-length : (had due : ℕ) → wrongLength had due ≡ false → had ≡ due
 unfolding wrongLength
@@ -143,4 +161,71 @@ message-passed s dead helpers helper new symbols room e =
       new-dead = inside new dead (neither (outside helpers helper) (outside dead new) (p .0 .named) .1);
       long = right-length _ _ (l .0);
       due = right-length _ _ (l .1);
+    }
+
+-- a first step
+pub record FirstPassed (s : Shape) (dead helpers : List ℕ) (new : ℕ) (messages : List ℕ) (pairs sums : ℕ) : Type 0 where
+  pub listed : Listed s dead helpers (outside dead new)
+  pub new-dead : member new dead ≡ true
+  pub long : length messages ≡ (s .k + 1) * messageSize s dead
+  pub pairs-due : pairs ≡ 2 * messageSize s dead
+  pub sums-due : sums ≡ (length dead - 1) * messageSize s dead
+  pub below : (e : ℕ) → e < length messages → getD messages e 0 < narrow .modulus
+
+pub first-passed : (s : Shape) (dead helpers : List ℕ) (new : ℕ) (messages : List ℕ) (pairs sums : ℕ)
+    → firstStepRefusal narrow s dead helpers new messages pairs sums ≡ 0 → FirstPassed s dead helpers new messages pairs sums
+unfolding firstStepRefusal
+first-passed s dead helpers new messages pairs sums e =
+    let p = judged-passed s dead helpers _ _ (symbolBad (narrow .modulus) messages) e in
+    let l = neither _ _ (p .1) in
+    let m = neither _ _ (l .0) in
+    record {
+      listed = p .0;
+      new-dead = inside new dead (p .0 .named);
+      long = right-length _ _ (m .0);
+      pairs-due = right-length _ _ (m .1);
+      sums-due = right-length _ _ (l .1);
+      below = symbols-accepted (narrow .modulus) messages (p .2);
+    }
+
+-- a second step
+pub record SecondPassed (s : Shape) (dead helpers : List ℕ) (new : ℕ) (pairs received : List ℕ) (room : ℕ) : Type 0 where
+  pub listed : Listed s dead helpers (outside dead new)
+  pub new-dead : member new dead ≡ true
+  pub pairs-long : length pairs ≡ 2 * messageSize s dead
+  pub received-long : length received ≡ (length dead - 1) * messageSize s dead
+  pub due : room ≡ size s
+
+pub second-passed : (s : Shape) (dead helpers : List ℕ) (new : ℕ) (pairs received : List ℕ) (room : ℕ)
+    → secondStepRefusal narrow s dead helpers new pairs received room ≡ 0 → SecondPassed s dead helpers new pairs received room
+unfolding secondStepRefusal
+second-passed s dead helpers new pairs received room e =
+    let p = judged-passed s dead helpers _ _ (symbolBad (narrow .modulus) pairs || symbolBad (narrow .modulus) received) e in
+    let l = neither _ _ (p .1) in
+    let m = neither _ _ (l .0) in
+    record {
+      listed = p .0;
+      new-dead = inside new dead (p .0 .named);
+      pairs-long = right-length _ _ (m .0);
+      received-long = right-length _ _ (m .1);
+      due = right-length _ _ (l .1);
+    }
+
+-- a whole repair
+pub record WholePassed (s : Shape) (dead helpers nodes : List ℕ) (room : ℕ) : Type 0 where
+  pub listed : Listed s dead helpers false
+  pub long : length nodes ≡ s .n * size s
+  pub due : room ≡ length dead * (s .k + length dead) * messageSize s dead
+  pub below : (j : ℕ) → j < length helpers → nodeGood narrow s nodes (getD helpers j 0) ≡ true
+
+pub whole-passed : (s : Shape) (dead helpers nodes : List ℕ) (room : ℕ) → wholeRefusal narrow s dead helpers nodes room ≡ 0 → WholePassed s dead helpers nodes room
+unfolding wholeRefusal
+whole-passed s dead helpers nodes room e =
+    let p = judged-passed s dead helpers _ _ (not (all (nodeGood narrow s nodes) helpers)) e in
+    let l = neither _ _ (p .1) in
+    record {
+      listed = p .0;
+      long = right-length _ _ (l .0);
+      due = right-length _ _ (l .1);
+      below = all-at (nodeGood narrow s nodes) helpers (not-false _ (p .2));
     }

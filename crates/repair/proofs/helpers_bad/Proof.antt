@@ -1,64 +1,77 @@
--- `repair::helpers_bad` meets its contract. Assumes nothing.
+-- `repair::helpers_bad` meets its contract: all symbols of the helpers passed are good. Assumes nothing.
+use mathlib.Core.Path.{_≡_, refl, sym, ap, _∙_}
+use mathlib.Core.Bool.{Bool, not, true, false}
+use mathlib.Core.List.{List}
+use Prim.Native.Nat.{ℕ, _+_, _-_, _*_, _≤_, _<_}
+use native.Mathlib.Nat.{mul-le-mul-right, suc-mul, mul-le-mul}
+use native.Mathlib.Omega.{arith}
 use borrow.Author.Needs.{needs}
+use borrow.Author.Tests.{not-true, not-false}
+use lib.ListN.{length, getD, take, drop}
+use Rattle.lists.specs.Lists.{all, below, piece}
+use Rattle.lists.proofs.Buffers.{part-of}
+use Rattle.lists.proofs.Members.{rising-below}
+use Rattle.lists.proofs.Scans.{all-pass, all-fail, all-end}
+use Rattle.shape.specs.Shape.{size}
+use Rattle.shape.specs.Refusals.{symbolBad}
+use Rattle.shape.proofs.Accepted.{shape-accepted}
+use Rattle.code.specs.Code.{narrow}
+use Rattle.repair.specs.Refusals.{nodeGood}
 use Rattle.repair.proofs.helpers_bad.Statement.{statement}
 use Rattle.repair.proofs.helpers_bad.Tie as tie
-use Rattle.repair.proofs.helpers_bad.Reads as reads
-use Rattle.repair.proofs.helpers_bad.Lts as lts
-use Rattle.shape.proofs.size.Reads as size-reads
-use Rattle.shape.proofs.symbol_bad.Reads as symbol-bad-reads
+
+-- the symbols of node i are good, with this many symbols a node
+good : ℕ → List ℕ → ℕ → Bool
+good full nodes i = all (below (narrow .modulus)) (piece full i nodes)
 
 abbrev Inv-loop : tie.InvT-loop
-Inv-loop helpers nodes full j₀ j = ?
+Inv-loop helpers nodes full j₀ j = (j ≤ length helpers) × (all (good full nodes) helpers ≡ all (good full nodes) (drop j helpers))
 
 abbrev μ-loop : tie.MeasureT-loop
-μ-loop helpers nodes full j₀ j = ?
-
-size-requires : tie.Need-size-requires Inv-loop μ-loop
-size-requires c κs = search needs
+μ-loop helpers nodes full j₀ j = length helpers - j
 
 loop-holds : tie.Need-loop-holds Inv-loop μ-loop
-loop-holds c = search needs
+loop-holds c = (search needs, refl)
 
-mul-at : tie.Need-mul-at Inv-loop μ-loop
-mul-at c = search needs
-
-shared-slice-read-at : tie.Need-shared-slice-read-at Inv-loop μ-loop
-shared-slice-read-at c = search needs
+-- a helper's symbols are within the nodes
+within : (c : tie.In-loop Inv-loop μ-loop) →
+    let a = c .before .before .before .before .before .args in
+    let i = getD (a .helpers .now) (c .before .loop .j) 0 in
+    (i * c .before .before .size .result + c .before .before .size .result ≤ length (a .nodes .now)) × (length (a .nodes .now) ≤ 737280)
+within c =
+    let st = c .before .before .before .before .before in
+    let e = c .before .before .size .ensures in
+    let h = shape-accepted _ (st .pre .0) in
+    let l = rising-below _ _ (st .pre .1) (c .before .loop .j) (c .loop-test .taken) in
+    (rw e (omega (arith, mul-le-mul-right (size (st .args .s)) l, suc-mul (getD (st .args .helpers .now) (c .before .loop .j) 0) (size (st .args .s)), st .pre .2)),
+      omega (arith, st .pre .2, mul-le-mul (h .n-high) (h .size-high)))
 
 mul-at-2 : tie.Need-mul-at-2 Inv-loop μ-loop
-mul-at-2 c = search needs
+mul-at-2 c = omega (arith, within (c .before))
 
 add-end : tie.Need-add-end Inv-loop μ-loop
-add-end c = search needs
+add-end c = omega (arith, within (c .before))
 
 mul-symbol-bad : tie.Need-mul-symbol-bad Inv-loop μ-loop
-mul-symbol-bad c = search needs
-
-sub-symbol-bad : tie.Need-sub-symbol-bad Inv-loop μ-loop
-sub-symbol-bad c = search needs
-
-part-symbol-bad-start : tie.Need-part-symbol-bad-start Inv-loop μ-loop
-part-symbol-bad-start c = search needs
+mul-symbol-bad c = omega (arith, within (c .before))
 
 part-symbol-bad-end : tie.Need-part-symbol-bad-end Inv-loop μ-loop
-part-symbol-bad-end c = search needs
+part-symbol-bad-end c = within (c .before) .0
 
-symbol-bad-requires : tie.Need-symbol-bad-requires Inv-loop μ-loop
-symbol-bad-requires c κs = search needs
+-- what the symbols lent tell of the helper
+tells : (full i : ℕ) (nodes : List ℕ) (t : Bool) → t ≡ symbolBad (narrow .modulus) (take (i * full + full - i * full) (drop (i * full) nodes)) → good full nodes i ≡ not t
+unfolding good symbolBad piece
+tells full i nodes t e = ?
 
 returns : tie.Need-returns Inv-loop μ-loop
+unfolding nodeGood good
 returns c = ?
-
-add-j : tie.Need-add-j Inv-loop μ-loop
-add-j c = search needs
-
-loop-less : tie.Need-loop-less Inv-loop μ-loop
-loop-less c = search needs
 
 loop-again : tie.Need-loop-again Inv-loop μ-loop
 loop-again c = ?
 
 returns-2 : tie.Need-returns-2 Inv-loop μ-loop
+unfolding nodeGood good
 returns-2 c = ?
 
 pub helpers-bad-spec : {M : Type 1} → statement M
@@ -67,19 +80,19 @@ helpers-bad-spec =
     (tie.spec
     Inv-loop
     μ-loop
-    size-requires
+    (λ c κs. search needs)
     loop-holds
-    mul-at
-    shared-slice-read-at
+    (λ c. search needs)
+    (λ c. search needs)
     mul-at-2
     add-end
     mul-symbol-bad
-    sub-symbol-bad
-    part-symbol-bad-start
+    (λ c. search needs)
+    (λ c. search needs)
     part-symbol-bad-end
-    symbol-bad-requires
+    (λ c κs. search needs)
     returns
-    add-j
-    loop-less
+    (λ c. search needs)
+    (λ c. search needs)
     loop-again
     returns-2)
