@@ -6,12 +6,12 @@ use Prim.Native.Nat.{ℕ, _+_, _-_, _*_, _≤_, _<_}
 use native.Mathlib.Nat.{mul-le-mul-right, suc-mul, mul-le-mul}
 use native.Mathlib.Omega.{arith}
 use borrow.Author.Needs.{needs}
-use borrow.Author.Tests.{not-true, not-false}
 use lib.ListN.{length, getD, take, drop}
 use Rattle.lists.specs.Lists.{all, below, piece}
 use Rattle.lists.proofs.Buffers.{part-of}
 use Rattle.lists.proofs.Members.{rising-below}
 use Rattle.lists.proofs.Scans.{all-pass, all-fail, all-end}
+use Rattle.shape.specs.declared.Shape.{Shape}
 use Rattle.shape.specs.Shape.{size}
 use Rattle.shape.specs.Refusals.{symbolBad}
 use Rattle.shape.proofs.Accepted.{shape-accepted}
@@ -59,20 +59,33 @@ part-symbol-bad-end : tie.Need-part-symbol-bad-end Inv-loop μ-loop
 part-symbol-bad-end c = within (c .before) .0
 
 -- what the symbols lent tell of the helper
+back : (a t : Bool) → t ≡ not a → a ≡ not t
+back true t e = ap not (sym e)
+back false t e = ap not (sym e)
+
 tells : (full i : ℕ) (nodes : List ℕ) (t : Bool) → t ≡ symbolBad (narrow .modulus) (take (i * full + full - i * full) (drop (i * full) nodes)) → good full nodes i ≡ not t
 unfolding good symbolBad piece
-tells full i nodes t e = ?
+tells full i nodes t e = back _ t (rw (part-of (i * full) full nodes) at e)
+
+same : (s : Shape) (nodes helpers : List ℕ) (full : ℕ) → full ≡ size s → all (nodeGood narrow s nodes) helpers ≡ all (good full nodes) helpers
+unfolding nodeGood good
+same s nodes helpers full e = rw e refl
 
 returns : tie.Need-returns Inv-loop μ-loop
-unfolding nodeGood good
-returns c = ?
+returns c =
+    let l = c .before .before .before .before .before .loop in
+    sym
+    (ap not
+    (same _ _ _ _ (c .before .before .before .before .before .before .size .ensures) ∙ l .inv .1
+    ∙ all-fail _ _ _ (c .before .before .before .before .loop-test .taken) (tells _ _ _ _ (c .before .symbol-bad .ensures) ∙ ap not (c .if1 .taken))))
 
 loop-again : tie.Need-loop-again Inv-loop μ-loop
-loop-again c = ?
+loop-again c =
+    let l = c .before .before .before .before .before .loop in
+    (search needs, l .inv .1 ∙ all-pass _ _ _ (c .before .before .before .before .loop-test .taken) (tells _ _ _ _ (c .before .symbol-bad .ensures) ∙ ap not (c .if1 .left)))
 
 returns-2 : tie.Need-returns-2 Inv-loop μ-loop
-unfolding nodeGood good
-returns-2 c = ?
+returns-2 c = sym (ap not (same _ _ _ _ (c .before .before .size .ensures) ∙ c .before .loop .inv .1 ∙ all-end _ _ _ (c .loop-test .left)))
 
 pub helpers-bad-spec : {M : Type 1} → statement M
 helpers-bad-spec =
