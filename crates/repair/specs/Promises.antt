@@ -8,8 +8,8 @@ use Rattle.shape.specs.declared.Shape.{Shape}
 use Rattle.shape.specs.declared.Answer.{Answer}
 use Rattle.shape.specs.Refusals.{answerNumber, afterwards}
 use Rattle.code.specs.Code.{narrow}
-use Rattle.repair.specs.Steps.{helperMessage, contents}
-use Rattle.repair.specs.Refusals.{messageRefusal, secondStepRefusal}
+use Rattle.repair.specs.Steps.{helperMessage, ownPairs, exchanges, contents}
+use Rattle.repair.specs.Refusals.{messageRefusal, firstStepRefusal, secondStepRefusal}
 
 -- "A helper makes its message": the message to the new node, from the helper's N symbols
 pub record HelperMessage (s : Shape) (dead helpers : List ℕ) (helper new : ℕ) (symbols before after : List ℕ) (answer : Answer) : Type 0 where
@@ -24,3 +24,13 @@ pub record SecondStep (s : Shape) (dead helpers : List ℕ) (new : ℕ) (pairs r
   pub symbols : after
       ≡ afterwards (secondStepRefusal narrow s dead helpers new pairs received (length before)) before
       (contents narrow s dead (position new dead) pairs received)
+
+-- "It gives the own pairs .. and for each other dead node (rising) its message of sums"
+pub record FirstStep (s : Shape) (dead helpers : List ℕ) (new : ℕ) (messages pairs sums pairs-after sums-after : List ℕ) (answer : Answer) : Type 0 where
+  pub number : answerNumber answer ≡ firstStepRefusal narrow s dead helpers new messages (length pairs) (length sums)
+  pub own : pairs-after
+      ≡ afterwards (firstStepRefusal narrow s dead helpers new messages (length pairs) (length sums)) pairs
+      (ownPairs narrow s dead helpers (position new dead) messages)
+  pub sent : sums-after
+      ≡ afterwards (firstStepRefusal narrow s dead helpers new messages (length pairs) (length sums)) sums
+      (exchanges narrow s dead helpers (position new dead) messages)

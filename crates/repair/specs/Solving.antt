@@ -3,15 +3,16 @@ use mathlib.Core.Path.{_≡_}
 use mathlib.Core.Bool.{Bool, true, cond}
 use mathlib.Core.List.{List}
 use Prim.Native.Nat.{ℕ, _+_, _*_, _-_, _<_, _≤_}
-use lib.ListN.{length, getD, take}
+use lib.ListN.{length, getD, set, take}
 use Rattle.lists.specs.Lists.{rising}
+use Rattle.column.specs.declared.Outcome.{Outcome}
 use Rattle.column.specs.declared.Outcome.the-variants.{Solved}
 use Rattle.column.specs.declared.Solution.{Solution}
 use Rattle.column.specs.Solving.{mostEntries, element}
 use Rattle.shape.specs.declared.Shape.{Shape}
 use Rattle.code.specs.Code.{narrow, morePoints}
 use Rattle.repair.specs.Classes.{node, messageSize}
-use Rattle.repair.specs.Steps.{place, solved}
+use Rattle.repair.specs.Steps.{place, solved, ownPairs, exchanges}
 
 -- the helpers, and the sums that they sent of sum x of rank u
 pub record Told (s : Shape) (dead helpers : List ℕ) (u : ℕ) (messages : List ℕ) (x : ℕ) : Type 0 where
@@ -47,3 +48,17 @@ pub record HandedOut (s : Shape) (dead : List ℕ) (u : ℕ) (all : Bool) (x : �
   pub long : length after ≡ length before
   pub each : (v : ℕ) → v < length dead → (v ≡ u → ⊥) → getD after (slotOf all (length dead) u v * messageSize s dead + x) 0 ≡ element entries (node dead v)
   pub rest : (y : ℕ) → ((v : ℕ) → v < length dead → (v ≡ u → ⊥) → slotOf all (length dead) u v * messageSize s dead + x ≡ y → ⊥) → getD after y 0 ≡ getD before y 0
+
+-- the helpers, and their messages to rank u
+pub record Helped (s : Shape) (dead helpers : List ℕ) (u : ℕ) (messages : List ℕ) : Type 0 where
+  pub rises : rising 0 (s .n) helpers ≡ true
+  pub count : length helpers ≡ s .k + 1
+  pub rank : u < length dead
+  pub long : length messages ≡ (s .k + 1) * messageSize s dead
+  pub below : (j x : ℕ) → j < s .k + 1 → x < messageSize s dead → getD messages (j * messageSize s dead + x) 0 < narrow .modulus
+
+-- no zero divisor, the own pairs, and the messages of sums
+pub record FirstDone (s : Shape) (dead helpers : List ℕ) (u : ℕ) (messages pairs sums : List ℕ) (outcome : Outcome) : Type 0 where
+  pub never : outcome ≡ Solved
+  pub own : pairs ≡ ownPairs narrow s dead helpers u messages
+  pub sent : sums ≡ exchanges narrow s dead helpers u messages
