@@ -1,30 +1,33 @@
 -- A loop over the places of all batches' layers 0 that looks at those of a rank's class: which sum it has come to.
 use mathlib.Core.Path.{_≡_, refl, sym, ap, ap₂, _∙_}
-use mathlib.Core.Bool.{true, false}
+use mathlib.Core.Bool.{Bool, true, false, cond}
 use mathlib.Core.List.{List}
 use Prim.Native.Nat.{ℕ, _+_, _*_, _/_, _%_, _^_, _≤_, _<_}
 use native.Mathlib.Nat.{mod-lt, div-lt-iff-lt-mul}
 use native.Mathlib.Omega.{arith}
 use borrow.Author.Tests.{eqb-true, eqb-false}
 use lib.Arith.{digits-lt, digits-div, digits-mod}
+use lib.Dec.{eqb}
 use lib.ListN.{length, getD}
 use lib.Pow.{pow-pos}
 use Rattle.lists.specs.Lists.{tabulate}
+use Rattle.lists.specs.Digits.{flip}
 use Rattle.lists.proofs.Tables.{is-tabulate, map-at}
 use Rattle.lists.proofs.Runs.{run, run-none, run-yes, run-no, run-all}
 use Rattle.shape.specs.Shape.{size}
 use Rattle.shape.specs.declared.Shape.{Shape}
 use Rattle.code.specs.Code.{Code}
 use Rattle.repair.specs.declared.Layout.{Layout}
-use Rattle.repair.specs.Classes.{batch, top, classOf, rankClass, Sum, spot, noSpot, inClass, members, spots, spotAt, sumAt, placeOf, partner, sumPlace, placeAt, messageSize}
+use Rattle.repair.specs.Classes.{batch, top, node, classOf, rankClass, Sum, spot, noSpot, inClass, members, spots, spotAt, sumAt, placeOf, partner, sumPlace, placeAt, messageSize}
 use Rattle.repair.specs.Steps.{added, addedAt, helperMessage}
 use Rattle.repair.specs.Layout.{Ready}
-use Rattle.repair.proofs.Ranks.{rankClass-le}
-use Rattle.repair.proofs.Dead.{Dead}
+use Rattle.repair.proofs.Sizes.{batch-pos}
+use Rattle.repair.proofs.Ranks.{rankClass-le, partner-lt}
+use Rattle.repair.proofs.Dead.{Dead, flip-node-lt}
 use Rattle.repair.proofs.Counts.{message-is, spots-size}
 use Rattle.repair.proofs.Sums.{spots-at, sumAt-lt}
 use Rattle.repair.proofs.FirstStep.{message-length}
-use Rattle.repair.proofs.Layouts.{ready-dead}
+use Rattle.repair.proofs.Layouts.{ready-dead, placed}
 
 -- the number of the sums of class c below e
 unfoldable pub numberAt : Shape → List ℕ → ℕ → ℕ → ℕ
@@ -101,3 +104,21 @@ pub message-here : (c : Code) (s : Shape) (dead : List ℕ) (u e x : ℕ) (symbo
     → addedAt c s dead u symbols e ≡ messageAt c s dead u symbols x
 unfolding messageAt addedAt added placeAt sumPlace spot
 message-here c s dead u e x symbols H = sym (ap (added c symbols) (spot-number s dead u _ _ x (H .sum) (H .number)))
+
+-- both places of a sum are a node's
+pub place-below : {dead : List ℕ} {g : Layout} → Ready dead g → (u which e : ℕ) → u < length dead → e < g .batches * g .places → placeAt (g .shape) dead u which e < size (g .shape)
+unfolding placeAt sumPlace
+place-below {dead} {g} R u which e h l = go (eqb which 0)
+  where
+    b : e / 2 ^ g .shape .n < g .shape .layers / batch dead
+    b = div-lt-iff-lt-mul (pow-pos (g .shape .n)) .1 (rw (count-is R) at l)
+
+    a : e % 2 ^ g .shape .n < 2 ^ g .shape .n
+    a = mod-lt e (pow-pos (g .shape .n))
+
+    in-node : (w x : ℕ) → w < batch dead → x < 2 ^ g .shape .n → placeOf (g .shape) dead w (e / 2 ^ g .shape .n) x < size (g .shape)
+    in-node w x k m = rw (← (placed R w (e / 2 ^ g .shape .n) x (rw (R .batch-is) k) (rw (R .batches-is) b) (rw (R .places-is) m) .1)) (placed R w (e / 2 ^ g .shape .n) x (rw (R .batch-is) k) (rw (R .batches-is) b) (rw (R .places-is) m) .0)
+
+    go : (t : Bool) → cond t (placeOf (g .shape) dead 0 (e / 2 ^ g .shape .n) (e % 2 ^ g .shape .n)) (placeOf (g .shape) dead (partner dead u) (e / 2 ^ g .shape .n) (flip (node dead u) (e % 2 ^ g .shape .n))) < size (g .shape)
+    go true = in-node 0 _ (batch-pos dead) a
+    go false = in-node (partner dead u) _ (partner-lt dead u h) (flip-node-lt (ready-dead R) u _ h a)

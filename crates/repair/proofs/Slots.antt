@@ -3,7 +3,7 @@ use mathlib.Core.Path.{_≡_, refl, sym, ap, ap₂, _∙_}
 use mathlib.Core.Logic.{_≢_, _⊎_, inl, inr}
 use mathlib.Core.Bool.{Bool, true, false}
 use mathlib.Core.List.{List}
-use Prim.Native.Nat.{ℕ, suc, _+_, _*_, _-_, _/_, _≤_, _<_}
+use Prim.Native.Nat.{ℕ, suc, _+_, _*_, _-_, _/_, _%_, _≤_, _<_}
 use native.Mathlib.Nat.{mul-le-mul}
 use native.Mathlib.Omega.{arith}
 use lib.Arith.{digits-lt, digits-div, digits-mod}
@@ -35,11 +35,23 @@ module _ (h u : ℕ) (l : u < h) where
       → slotOf all h u v * M + x ≡ slotOf all h u w * M + y → (v ≡ w) × (x ≡ y)
   slot-symbol-own all M v x w y m n d f k q e = (
     slot-own all v w m n d f (sym (digits-div (slotOf all h u v) k) ∙ ap (λ z. z / M) e ∙ digits-div (slotOf all h u w) q),
-    sym (digits-mod (slotOf all h u v) k) ∙ ap (λ z. Prim.Native.Nat._%_ z M) e ∙ digits-mod (slotOf all h u w) q,
+    sym (digits-mod (slotOf all h u v) k) ∙ ap (λ z. z % M) e ∙ digits-mod (slotOf all h u w) q,
   )
 
   pub slot-symbol-lt : (all : Bool) (M v x : ℕ) → v < h → v ≢ u → x < M → slotOf all h u v * M + x < slots all h * M
   slot-symbol-lt all M v x m d k = digits-lt (slot-lt all v m d) k
+
+-- among all exchanges, the messages of two senders stand apart
+pub senders-apart : (h M u v x t w y : ℕ) → u < h → v < h → v ≢ u → t < h → w < h → w ≢ t → x < M → y < M
+    → slotOf true h u v * M + x ≡ slotOf true h t w * M + y → u ≡ t
+unfolding slotOf
+senders-apart h M u v x t w y a b d e f g k l q =
+    let s : v * (h - 1) + place v u ≡ w * (h - 1) + place w t = sym (digits-div (v * (h - 1) + place v u) k) ∙ ap (λ z. z / M) q ∙ digits-div (w * (h - 1) + place w t) l in
+    let p = place-below h v u b a (λ z. d (sym z)) in
+    let r = place-below h w t f e (λ z. g (sym z)) in
+    let same : v ≡ w = sym (digits-div v p) ∙ ap (λ z. z / (h - 1)) s ∙ digits-div w r in
+    let at : place v u ≡ place w t = sym (digits-mod v p) ∙ ap (λ z. z % (h - 1)) s ∙ digits-mod w r in
+    sym (other-place h v u b a (λ z. d (sym z))) ∙ ap₂ otherRank same at ∙ other-place h w t f e (λ z. g (sym z))
 
 -- there are few messages
 pub slots-few : (all : Bool) (h : ℕ) → h ≤ 12 → slots all h ≤ 144
