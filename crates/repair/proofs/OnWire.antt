@@ -7,8 +7,10 @@ use native.Mathlib.Nat.{mul-le-mul}
 use native.Mathlib.Omega.{arith}
 use borrow.Rule.Slice.PartMut.{putMid}
 use lib.ListN.{length, getD, take, drop, length-drop}
+use lib.Seq.{drop-drop}
 use Rattle.lists.specs.Lists.{flat, piece}
 use Rattle.lists.proofs.Flats.{flat-length}
+use Rattle.lists.proofs.Buffers.{part-of}
 use Rattle.shape.specs.declared.Shape.{Shape}
 use Rattle.shape.specs.Shape.{size}
 use Rattle.shape.proofs.Accepted.{shape-accepted}
@@ -18,7 +20,7 @@ use Rattle.repair.specs.Classes.{messageSize}
 use Rattle.repair.specs.Layout.{Ready}
 use Rattle.repair.specs.Whole.{fromHelper, fromHelpers}
 use Rattle.repair.specs.Solving.{HandedOut}
-use Rattle.repair.specs.Wires.{inward, inwards, toRank}
+use Rattle.repair.specs.Wires.{inward, inwards, toRank, fromOthers}
 use Rattle.repair.proofs.Dead.{Dead}
 use Rattle.repair.proofs.FirstStep.{message-length}
 use Rattle.repair.proofs.Layouts.{bounded, share-high}
@@ -72,3 +74,10 @@ pub tail-handed : (s : Shape) (dead : List ℕ) (u x b : ℕ) (entries l p : Lis
 tail-handed s dead u x b entries l p e h H =
     let q : length p ≡ length l - b = H .long ∙ ap length (tail-lent b l h) ∙ length-drop b l in
     rw (← e, tail-back b l h p q, ← (tail-lent b l h)) H
+
+-- what is lent of the wire for rank u's second step
+pub lent-others : (s : Shape) (dead : List ℕ) (base m u : ℕ) (wire : List ℕ) → base ≡ inwards s dead → m ≡ (length dead - 1) * messageSize s dead
+    → take (base + u * m + m - (base + u * m)) (drop (base + u * m) wire) ≡ fromOthers s dead u wire
+unfolding fromOthers piece
+lent-others s dead base m u wire e d =
+    part-of (base + u * m) m wire ∙ ap (take m) (sym (drop-drop (u * m) base wire)) ∙ ap₂ (λ y z. take z (drop (u * z) (drop y wire))) e d

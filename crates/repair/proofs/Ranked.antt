@@ -100,8 +100,9 @@ module _ (s : Shape) (dead helpers : List ℕ) where
     each = λ t v y k m d q. E .each t v y (omega arith) k m d q;
   }
 
-  -- ---- the second steps
+-- ---- the second steps
 
+module _ (s : Shape) (dead : List ℕ) where
   pub record Renewing (u : ℕ) (nodes₀ nodes wire : List ℕ) : Type 0 where
     pub long : length nodes ≡ length nodes₀
     pub new : (t : ℕ) → t < u → t < length dead → (pairs : List ℕ) → Paired s dead t pairs (piece (size s) (node dead t) nodes₀)
@@ -115,27 +116,27 @@ module _ (s : Shape) (dead helpers : List ℕ) where
       → Renewing u nodes₀ nodes wire → Recovers narrow s dead u (fromOthers s dead u wire) (piece (size s) (node dead u) nodes) p
       → Renewing (u + 1) nodes₀ (putMid (node dead u * size s) (node dead u * size s + size s - node dead u * size s) nodes p) wire
   renewing-more D u l nodes₀ nodes wire p all long E F = record {
-    long = put-piece-length (s .n) N (node dead u) nodes p i-low′ whole long ∙ E .long;
+    long = put-piece-length (s .n) (size s) (node dead u) nodes p i-low′ whole long ∙ E .long;
     new = λ t k m. mine t k m (ℕ-discrete t u);
-    kept = λ i k d. put-other (s .n) N (node dead u) nodes p i-low′ whole long i k (λ e. d u (omega arith) l (sym e)) ∙ E .kept i k (λ t a b. d t (omega arith) b);
+    kept = λ i k d. put-other (s .n) (size s) (node dead u) nodes p i-low′ whole long i k (λ e. d u (omega arith) l (sym e)) ∙ E .kept i k (λ t a b. d t (omega arith) b);
   }
     where
       i-low′ : node dead u < s .n
       i-low′ = node-below D u l
 
-      whole : length nodes ≡ s .n * N
+      whole : length nodes ≡ s .n * size s
       whole = E .long ∙ all
 
-      before : piece N (node dead u) nodes ≡ piece N (node dead u) nodes₀
+      before : piece (size s) (node dead u) nodes ≡ piece (size s) (node dead u) nodes₀
       before = E .kept (node dead u) i-low′ (λ t k m. node-own D t u m l (λ e. omega arith))
 
-      mine : (t : ℕ) → t < u + 1 → t < h → Dec (t ≡ u) → (pairs : List ℕ) → Paired s dead t pairs (piece N (node dead t) nodes₀)
-          → piece N (node dead t) (putMid (node dead u * N) (node dead u * N + N - node dead u * N) nodes p) ≡ contents narrow s dead t pairs (fromOthers s dead t wire)
+      mine : (t : ℕ) → t < u + 1 → t < length dead → Dec (t ≡ u) → (pairs : List ℕ) → Paired s dead t pairs (piece (size s) (node dead t) nodes₀)
+          → piece (size s) (node dead t) (putMid (node dead u * size s) (node dead u * size s + size s - node dead u * size s) nodes p) ≡ contents narrow s dead t pairs (fromOthers s dead t wire)
       mine t k m (yes e) pairs P =
-          rw e (put-piece (s .n) N (node dead u) nodes p i-low′ whole long ∙ F .whole pairs (rw before (subst (λ z. Paired s dead z pairs (piece N (node dead z) nodes₀)) e P)))
+          rw e (put-piece (s .n) (size s) (node dead u) nodes p i-low′ whole long ∙ F .whole pairs (rw before (subst (λ z. Paired s dead z pairs (piece (size s) (node dead z) nodes₀)) e P)))
       mine t k m (no e) pairs P =
           let b : t < u = omega arith in
-          put-other (s .n) N (node dead u) nodes p i-low′ whole long (node dead t) (node-below D t m) (node-own D t u m l e) ∙ E .new t b m pairs P
+          put-other (s .n) (size s) (node dead u) nodes p i-low′ whole long (node dead t) (node-below D t m) (node-own D t u m l e) ∙ E .new t b m pairs P
 
   pub renewing-end : (u : ℕ) (nodes₀ nodes wire : List ℕ) → u ≡ length dead → Renewing u nodes₀ nodes wire → Renewed s dead nodes₀ nodes wire
   renewing-end u nodes₀ nodes wire e E = record {
@@ -143,3 +144,7 @@ module _ (s : Shape) (dead helpers : List ℕ) where
     new = λ t k. E .new t (omega arith) k;
     kept = λ i k d. E .kept i k (λ t a b. d t b);
   }
+
+-- the same of equal lists
+pub recovers-as : (s : Shape) (dead : List ℕ) (u : ℕ) (r r′ b b′ p : List ℕ) → r ≡ r′ → b ≡ b′ → Recovers narrow s dead u r b p → Recovers narrow s dead u r′ b′ p
+recovers-as s dead u r r′ b b′ p e f R = rw (← e, ← f) R

@@ -1,95 +1,133 @@
--- `repair::renew` meets its contract. Assumes nothing.
+-- `repair::renew` meets its contract: the second steps of the ranks passed are done. Assumes nothing.
+use mathlib.Core.Path.{_≡_, refl, sym, ap, ap₂, _∙_}
+use mathlib.Core.List.{List}
+use Prim.Native.Nat.{ℕ, _+_, _-_, _*_, _≤_, _<_}
+use native.Mathlib.Nat.{mul-le-mul}
+use native.Mathlib.Omega.{arith}
 use borrow.Author.Needs.{needs}
+use lib.ListN.{length, getD, take, drop, length-take, length-drop}
+use Rattle.lists.specs.Lists.{piece}
+use Rattle.shape.specs.Shape.{size}
+use Rattle.shape.proofs.Accepted.{shape-accepted}
+use Rattle.repair.specs.Classes.{node, messageSize}
+use Rattle.repair.specs.Wires.{inwards, fromOthers}
+use Rattle.repair.proofs.Layouts.{ready-dead, node-high, bounded, share-high}
+use Rattle.repair.proofs.Parts.{row-within, piece-part}
+use Rattle.repair.proofs.OnWire.{Room, wire-room, lent-others}
+use Rattle.repair.proofs.Ranked.{Renewing, renewing-none, renewing-more, renewing-end, recovers-as}
 use Rattle.repair.proofs.renew.Statement.{statement}
 use Rattle.repair.proofs.renew.Tie as tie
-use Rattle.repair.proofs.renew.Reads as reads
-use Rattle.repair.proofs.renew.Lts as lts
-use Rattle.repair.proofs.recover.Reads as recover-reads
-use Rattle.shape.proofs.size.Reads as size-reads
 
 abbrev Inv-loop : tie.InvT-loop
-Inv-loop g dead told nodes₀ wire full base size u₀ u-end nodes u = ?
+Inv-loop g dead told nodes₀ wire full base part u₀ u-end nodes u =
+    (u ≤ length dead) × (u-end ≡ length dead) × Renewing (g .shape) dead u nodes₀ nodes wire
 
 abbrev μ-loop : tie.MeasureT-loop
-μ-loop g dead told nodes₀ wire full base size u₀ u-end nodes u = ?
+μ-loop g dead told nodes₀ wire full base part u₀ u-end nodes u = u-end - u
 
 size-requires : tie.Need-size-requires Inv-loop μ-loop
-size-requires c κs = search needs
+size-requires c κs = c .before .before .before .pre .0 .shaped
+
+room : (c : tie.Start Inv-loop μ-loop) → Room (c .args .dead .now) (c .args .g) (c .args .told) 0
+room c = wire-room (c .pre .0) _ 0 (c .pre .1) (c .pre .0 .some)
 
 mul-base : tie.Need-mul-base Inv-loop μ-loop
-mul-base c = search needs
+mul-base c = let r = room (c .before .before .before .before) in omega (arith, r .short)
 
-sub-size : tie.Need-sub-size Inv-loop μ-loop
-sub-size c = search needs
+sub-part : tie.Need-sub-part Inv-loop μ-loop
+sub-part c = c .before .before .before .before .pre .0 .some
 
-mul-size : tie.Need-mul-size Inv-loop μ-loop
-mul-size c = search needs
+mul-part : tie.Need-mul-part Inv-loop μ-loop
+mul-part c =
+    let R = c .before .before .before .before .before .pre .0 in
+    rw (R .share-is) (omega (arith, mul-le-mul {n₁ = length (c .before .before .before .before .before .args .dead .now) - 1} {n₂ = 12} {m₂ = 61440} (omega (arith, bounded R .dead-high)) (share-high R)))
 
 loop-holds : tie.Need-loop-holds Inv-loop μ-loop
-loop-holds c = search needs
+loop-holds c = (omega arith, refl, renewing-none _ _ _ _)
 
-mul-at : tie.Need-mul-at Inv-loop μ-loop
-mul-at c = search needs
-
-shared-slice-read-at : tie.Need-shared-slice-read-at Inv-loop μ-loop
-shared-slice-read-at c = search needs
+-- the rank's node and its messages are within their buffers
+within : (c : tie.In-loop Inv-loop μ-loop) →
+    let a = c .before .before .before .before .before .before .before .args in
+    let l = c .before .loop in
+    let i = getD (a .dead .now) (l .u) 0 in
+    let size = (length (a .dead .now) - 1) * a .g .share in
+    (i * c .before .before .before .size .result + c .before .before .before .size .result ≤ length (l .nodes)) × (length (l .nodes) ≤ 737280)
+    × (length (a .dead .now) * a .told + l .u * size + size ≤ length (a .wire .now)) × (length (a .wire .now) ≤ 17694720)
+unfolding node
+within c =
+    let st = c .before .before .before .before .before .before .before in
+    let a = st .args in
+    let l = c .before .loop in
+    let R = st .pre .0 in
+    let h = shape-accepted _ (R .shaped) in
+    let u-low : l .u < length (a .dead .now) = omega arith in
+    let i-low = node-high R (l .u) u-low .0 in
+    let r = room st in
+    let H = length (a .dead .now) in
+    let M = messageSize (a .g .shape) (a .dead .now) in
+    let m : H * (H - 1) * M ≤ 144 * 61440 = mul-le-mul {n₂ = 144} {m₂ = 61440} (mul-le-mul {n₂ = 12} {m₂ = 12} (omega (arith, bounded R .dead-high)) (omega (arith, bounded R .dead-high))) (share-high R) in
+    (rw (c .before .before .before .size .ensures, l .inv .2 .long, st .pre .2) (row-within _ _ _ i-low),
+      omega (arith, l .inv .2 .long, st .pre .2, mul-le-mul (h .n-high) (h .size-high)),
+      rw (st .pre .3, R .share-is, ← (r .all)) (omega (arith, row-within H ((H - 1) * M) (l .u) u-low)),
+      omega (arith, st .pre .3, r .all, r .short, m))
 
 mul-at-2 : tie.Need-mul-at-2 Inv-loop μ-loop
-mul-at-2 c = search needs
+mul-at-2 c = omega (arith, within (c .before))
 
 add-end : tie.Need-add-end Inv-loop μ-loop
-add-end c = search needs
+add-end c = omega (arith, within (c .before))
 
 mul-from : tie.Need-mul-from Inv-loop μ-loop
-mul-from c = search needs
+mul-from c = omega (arith, within (c .before))
 
 add-from : tie.Need-add-from Inv-loop μ-loop
-add-from c = search needs
+add-from c = omega (arith, within (c .before))
 
 add-to : tie.Need-add-to Inv-loop μ-loop
-add-to c = search needs
+add-to c = omega (arith, within (c .before))
 
 mul-recover : tie.Need-mul-recover Inv-loop μ-loop
-mul-recover c = search needs
-
-sub-recover : tie.Need-sub-recover Inv-loop μ-loop
-sub-recover c = search needs
-
-part-recover-start : tie.Need-part-recover-start Inv-loop μ-loop
-part-recover-start c = search needs
+mul-recover c = omega (arith, within (c .before))
 
 part-recover-end : tie.Need-part-recover-end Inv-loop μ-loop
-part-recover-end c = search needs
+part-recover-end c = within (c .before) .2
 
 mul-recover-2 : tie.Need-mul-recover-2 Inv-loop μ-loop
-mul-recover-2 c = search needs
-
-sub-recover-2 : tie.Need-sub-recover-2 Inv-loop μ-loop
-sub-recover-2 c = search needs
-
-part-recover-start-2 : tie.Need-part-recover-start-2 Inv-loop μ-loop
-part-recover-start-2 c = search needs
+mul-recover-2 c = omega (arith, within (c .before .before))
 
 part-recover-end-2 : tie.Need-part-recover-end-2 Inv-loop μ-loop
-part-recover-end-2 c = search needs
+part-recover-end-2 c = within (c .before .before) .0
 
 recover-requires : tie.Need-recover-requires Inv-loop μ-loop
-recover-requires c κs = search needs
-
-add-u : tie.Need-add-u Inv-loop μ-loop
-add-u c = search needs
-
-loop-less : tie.Need-loop-less Inv-loop μ-loop
-loop-less c = search needs
+recover-requires c κs =
+    let st = c .before .before .before .before .before .before .before .before .before .before in
+    let w = within (c .before .before .before) in
+    let e = st .pre .0 .share-is in
+    ((st .pre .0, omega arith), (simp (length-take, length-drop) (omega (arith, w, ap (λ z. (length (st .args .dead .now) - 1) * z) e)), simp (length-take, length-drop) (omega (arith, w, c .before .before .before .before .before .before .size .ensures))))
 
 loop-again : tie.Need-loop-again Inv-loop μ-loop
-loop-again c = ?
-
-same-length : tie.Need-same-length Inv-loop μ-loop
-same-length c = search needs
+unfolding node
+loop-again c =
+    let st = c .before .before .before .before .before .before .before .before .before .before .before .before .before in
+    let a = st .args in
+    let l = c .before .before .before .before .before .before .before .loop in
+    let R = st .pre .0 in
+    let e = c .before .before .before .before .before .before .before .before .before .size .ensures in
+    let i = getD (a .dead .now) (l .u) 0 in
+    let last : List ℕ = c .before .before .recover .last .1 .1 .1 .1 .0 in
+    let long : length last ≡ size (a .g .shape) = c .before .before .recover .kept .1 .1 .1 .1 .0 ∙ simp (length-take, length-drop) (omega (arith, within (c .before .before .before .before .before .before), e)) in (
+      omega arith,
+      refl,
+      rw e
+          (renewing-more (a .g .shape) (a .dead .now) (ready-dead R) (l .u) (omega arith) (a .nodes .now) (l .nodes) (a .wire .now) last (st .pre .2) long (l .inv .2)
+          (recovers-as _ _ _ _ _ _ _ _
+          (lent-others (a .g .shape) (a .dead .now) _ _ (l .u) (a .wire .now) (room st .all) (ap (λ z. (length (a .dead .now) - 1) * z) (R .share-is)))
+          (piece-part (c .before .before .before .before .before .before .before .before .before .size .result) i (l .nodes) ∙ ap (λ z. piece z i (l .nodes)) e)
+          (c .before .before .recover .ensures))),
+    )
 
 returns : tie.Need-returns Inv-loop μ-loop
-returns c = ?
+returns c = let l = c .before .loop in renewing-end _ _ (l .u) _ _ _ (omega arith) (l .inv .2)
 
 pub renew-spec : {M : Type 1} → statement M
 renew-spec =
@@ -99,27 +137,27 @@ renew-spec =
     μ-loop
     size-requires
     mul-base
-    sub-size
-    mul-size
+    sub-part
+    mul-part
     loop-holds
-    mul-at
-    shared-slice-read-at
+    (λ c. search needs)
+    (λ c. search needs)
     mul-at-2
     add-end
     mul-from
     add-from
     add-to
     mul-recover
-    sub-recover
-    part-recover-start
+    (λ c. search needs)
+    (λ c. search needs)
     part-recover-end
     mul-recover-2
-    sub-recover-2
-    part-recover-start-2
+    (λ c. search needs)
+    (λ c. search needs)
     part-recover-end-2
     recover-requires
-    add-u
-    loop-less
+    (λ c. search needs)
+    (λ c. search needs)
     loop-again
-    same-length
+    (λ c. search needs)
     returns)

@@ -9,6 +9,7 @@ use lib.ListN.{length, take, length-take, length-drop}
 use Rattle.lists.specs.Lists.{flat}
 use Rattle.lists.proofs.Buffers.{onto}
 use Rattle.code.specs.Code.{narrow}
+use Rattle.repair.specs.Classes.{messageSize}
 use Rattle.repair.specs.Whole.{fromHelpers}
 use Rattle.repair.specs.Wires.{inward, inwards}
 use Rattle.repair.proofs.Layouts.{ready-dead}
@@ -55,7 +56,9 @@ unfolding inward
 messages-to-requires c κs =
     let st = c .before .before .before .before .before .before .before in
     let p = st .pre .0 in
-    ((p .0, omega arith, p .2), (st .pre .1 .0, simp (length-take, length-drop) (omega (arith, fits (c .before), p .1, p .3, ap (λ z. z * _) (p .3)))))
+    let M = messageSize (st .args .g .shape) (st .args .dead .now) in
+    let q : st .args .told ≡ length (st .args .helpers .now) * M = p .1 ∙ ap (λ z. z * M) (sym (p .3)) in
+    ((p .0, omega arith, p .2), (st .pre .1 .0, simp (length-take, length-drop) (omega (arith, fits (c .before), q))))
 
 loop-again : tie.Need-loop-again Inv-loop μ-loop
 loop-again c =
