@@ -76,6 +76,9 @@ turned r = go (numberOf r) (number-positive r)
 pub turned-back : (a : Answer) (r : Refusal) (number : ℕ) (before made : List ℕ) → a ≡ Refused r → answerNumber a ≡ number → before ≡ afterwards number before made
 turned-back a r number before made e q = sym (afterwards-refused before made r number (ap answerNumber (sym e) ∙ q))
 
+pub turned-number : (a : Answer) (r : Refusal) (number : ℕ) → a ≡ Refused r → answerNumber a ≡ number → number ≡ 0 → ⊥
+turned-number a r number e q z = let n = number-positive r in omega (arith, ap answerNumber (sym e) ∙ q)
+
 -- what a call answers, by what the causes 1 to 3 were answered with, and then by 4, a wrong length, and 5, a bad symbol
 module _ (s : Shape) (dead helpers : List ℕ) (unnamed : Bool) (lists : Answer) (e : answerNumber lists ≡ listsRefusal s dead helpers unnamed 0) where
   pub judged-stop : (r : Refusal) → lists ≡ Refused r → (rest : ℕ) → answerNumber lists ≡ listsRefusal s dead helpers unnamed rest

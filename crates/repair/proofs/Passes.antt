@@ -90,7 +90,7 @@ unfolding spotAt
 spot-number s dead u b a x S e = ap (λ y. getD (spots s dead u) y noSpot) (sym e) ∙ spots-at s dead u b a S noSpot
 
 -- a message by the numbers of its sums
-pub messageAt : Code → Shape → List ℕ → ℕ → List ℕ → ℕ → ℕ
+unfoldable pub messageAt : Code → Shape → List ℕ → ℕ → List ℕ → ℕ → ℕ
 messageAt c s dead u symbols x = added c symbols (spotAt s dead u x)
 
 pub message-table : (c : Code) {s : Shape} {dead : List ℕ} → Dead s dead → (u : ℕ) (symbols : List ℕ)

@@ -88,7 +88,7 @@ module _ (s : Shape) (dead helpers : List ℕ) (u : ℕ) (messages : List ℕ) w
           ∙ S .each v y h d (omega arith) n
 
   -- the j-th of the other ranks
-  other-is : (h j : ℕ) → u < h → j < h - 1 → (otherRank u j < h) × (otherRank u j ≢ u) × (place u (otherRank u j) ≡ j)
+  pub other-is : (h j : ℕ) → u < h → j < h - 1 → (otherRank u j < h) × (otherRank u j ≢ u) × (place u (otherRank u j) ≡ j)
   unfolding otherRank place
   other-is h j l k = go (below-or-not j u)
     where
