@@ -1,0 +1,64 @@
+-- `repair::helper_message` meets its contract: turned back, or the message of the new node's rank. Assumes nothing.
+use mathlib.Core.Path.{_≡_, sym, ap, ap₂, _∙_}
+use borrow.Author.Needs.{needs}
+use lib.ListN.{length}
+use Rattle.shape.specs.Refusals.{answerNumber}
+use Rattle.shape.proofs.Answers.{afterwards-done}
+use Rattle.code.specs.Code.{narrow}
+use Rattle.repair.specs.Classes.{messageSize}
+use Rattle.repair.specs.Steps.{helperMessage}
+use Rattle.repair.specs.Refusals.{messageRefusal}
+use Rattle.repair.proofs.Judged.{turned-back, lists-ready, MessagePassed, message-passed}
+use Rattle.repair.proofs.helper_message.Statement.{statement}
+use Rattle.repair.proofs.helper_message.Tie as tie
+
+returns : tie.Need-returns
+returns c = record { number = c .before .before .judge-message .ensures; message = turned-back _ _ _ _ _ (c .enum-told2 .given .1) (c .before .before .judge-message .ensures) }
+
+none : (c : tie.After-enum-told) →
+    let a = c .before .before .before .before .before .before .before .args in
+    messageRefusal narrow (a .s) (a .dead .now) (a .helpers .now) (a .helper) (a .new) (a .symbols .now) (length (a .message .now)) ≡ 0
+none c = sym (c .before .before .judge-message .ensures) ∙ ap answerNumber (c .enum-told .given .1)
+
+known : (c : tie.After-enum-told) →
+    let a = c .before .before .before .before .before .before .before .args in
+    MessagePassed (a .s) (a .dead .now) (a .helpers .now) (a .helper) (a .new) (a .symbols .now) (length (a .message .now))
+known c = message-passed _ _ _ _ _ _ _ (none c)
+
+laid-out-requires : tie.Need-laid-out-requires
+laid-out-requires c κs = lists-ready _ _ _ _ (known c .listed)
+
+rank-of-requires : tie.Need-rank-of-requires
+rank-of-requires c κs = (c .laid-out .ensures .1, known (c .before) .new-dead)
+
+message-to-requires : tie.Need-message-to-requires
+message-to-requires c κs =
+    let k = known (c .before .before .before) in
+    let g = c .before .before .laid-out .ensures in
+    (g .1, c .before .rank-of .ensures .0, rw (g .0) (k .long), rw (g .0) (k .due))
+
+returns-2 : tie.Need-returns-2
+returns-2 c =
+    let e = none (c .before .before .before .before .before .before) in
+    let a = c .before .before .before .before .before .before .before .before .before .before .before .before .before .args in
+    record {
+      number = sym e;
+      message =
+          c .before .before .message-to .ensures
+          ∙ ap₂ (λ s u. helperMessage narrow s (a .dead .now) u (a .symbols .now)) (c .before .before .before .before .before .laid-out .ensures .0) (c .before .before .before .before .rank-of .ensures .1)
+          ∙ sym (afterwards-done _ _ _ e);
+    }
+
+pub helper-message-spec : {M : Type 1} → statement M
+helper-message-spec =
+    tie.close
+    (tie.spec
+    (λ c κs. search needs)
+    (λ c. search needs)
+    (λ c. search needs)
+    returns
+    laid-out-requires
+    rank-of-requires
+    message-to-requires
+    (λ c. search needs)
+    returns-2)
