@@ -1,7 +1,7 @@
 -- The promise of the call: a buffer that is too short, and one that is not.
 use mathlib.Core.Path.{_≡_, refl, sym, ap, _∙_}
 use mathlib.Core.List.{List, [], _∷_}
-use Prim.Native.Nat.{ℕ, _+_, _≤_, _<_}
+use Prim.Native.Nat.{ℕ, zero, suc, _+_, _≤_, _<_}
 use native.Mathlib.Nat.{zero-add}
 use native.Mathlib.Omega.{arith}
 use borrow.Author.Tests.{lt-ltb, le-ltb}
@@ -12,9 +12,10 @@ use Rattle.shape.specs.declared.Refusal.the-variants as refusal
 use Rattle.shape.specs.Refusals.{afterwards}
 use Rattle.shape.proofs.Answers.{afterwards-done, afterwards-refused}
 use Rattle.card.specs.Promises.{over}
+use Rattle.plan.specs.declared.Planned.{Planned}
 use Rattle.plan.specs.declared.Planned.the-variants as planned
 use Rattle.plan.specs.Plan.{printed, planRoom}
-use Rattle.plan.specs.Promises.{planRefusal, Plans, Puts}
+use Rattle.plan.specs.Promises.{plannedValues, planRefusal, Plans, Puts}
 use Rattle.plan.proofs.Room.{printed-fits}
 
 module _ (input before : List ℕ) where
@@ -38,3 +39,11 @@ module _ (input before : List ℕ) where
     where
       front : sets before 0 (printed input) ≡ over (printed input) before
       front = unfold over in sets-front (printed input) before (omega (arith, printed-fits input))
+
+-- a text that is written is no longer than the buffer must be
+pub text-fits : (input before after : List ℕ) (answer : Planned) (long : ℕ) → Plans input before after answer → answer ≡ planned.Text long → long ≤ planRoom
+text-fits input before after answer long p e = go (planRefusal (length before)) (ap plannedValues (sym e) ∙ p .returned)
+  where
+    go : (number : ℕ) → long ∷ [] ≡ afterwards number [] (length (printed input) ∷ []) → long ≤ planRoom
+    go zero q = unfold afterwards in (let d : long ≡ length (printed input) = cc in omega (arith, printed-fits input))
+    go (suc number) q = unfold afterwards in absurd (omega (arith, ap length q))

@@ -16,7 +16,7 @@ use Rattle.plan.proofs.transfer_at.Tie as tie
 to : (c : tie.Then1) →
     let a = c .before .before .before .args in
     Place (length (a .dead .now)) (length (a .helpers .now)) (a .e)
-to c = place-of _ _ _ (c .if1 .taken)
+to c = place-of _ _ _ (omega arith)
 
 -- an exchange, numbered from 0 again
 later : (c : tie.Else1) →
@@ -53,7 +53,7 @@ shared-slice-read-receiver c = to (c .before .before) .row
 
 returns : tie.Need-returns
 unfolding helperTransfer node
-returns c = sym (transfer-first _ _ _ _ (c .before .before .if1 .taken))
+returns c = sym (transfer-first _ _ _ _ (omega arith))
 
 sub-others : tie.Need-sub-others
 sub-others c = omega (arith, among c)
