@@ -1,6 +1,6 @@
 -- A loop that reads numbers into a slice: which are read, and at which place the others stand.
-use mathlib.Core.Path.{_≡_, refl, sym, ap, _∙_}
-use mathlib.Core.List.{List, [], _∷_, _++_}
+use mathlib.Core.Path.{_≡_, refl, _∙_}
+use mathlib.Core.List.{List}
 use Prim.Native.Nat.{ℕ, suc, _+_, _-_, _≤_, _<_}
 use native.Mathlib.Numerals.{add-one}
 use native.Mathlib.Nat.{sub-zero}
@@ -8,7 +8,7 @@ use native.Mathlib.Omega.{arith}
 use lib.ListN.{length, set, take, drop, length-set}
 use lib.Seq.{take-suc-set, take-all}
 use Rattle.card.specs.declared.Number.the-variants.{Read, Malformed}
-use Rattle.card.specs.Numbers.{mostGroups, broken, andThen, thenNumbers, numberAt, readNumbers}
+use Rattle.card.specs.Numbers.{mostGroups, thenNumbers, numberAt, readNumbers}
 use Rattle.card.proofs.Places.{number-bad, number-read}
 use Rattle.card.proofs.Reading.{ahead, ahead-none, ahead-one, ahead-broken, ahead-values}
 use Rattle.plan.specs.declared.Behind.the-variants as behind

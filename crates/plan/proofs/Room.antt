@@ -1,9 +1,9 @@
 -- No text is longer than planRoom.
-use mathlib.Core.Path.{_≡_, refl, sym, ap, _∙_}
+use mathlib.Core.Path.{_≡_, refl, ap, _∙_}
 use mathlib.Core.Logic.{_⊎_, inl, inr}
 use mathlib.Core.Bool.{Bool, true, false, not}
 use mathlib.Core.List.{List, [], _∷_, _++_, flatMap, append-assoc}
-use Prim.Native.Nat.{ℕ, zero, suc, _+_, _*_, _-_, _/_, _^_, _≤_, _<_}
+use Prim.Native.Nat.{ℕ, zero, suc, _+_, _*_, _-_, _^_, _≤_, _<_}
 use native.Mathlib.Nat.{mul-le-mul, mul-le-mul-right, mul-div-le, suc-mul}
 use native.Mathlib.Omega.{arith}
 use lib.ListN.{length, getD, take, drop, length-append, List·getD-eq-default}
@@ -14,12 +14,11 @@ use Rattle.lists.proofs.Writing.{Writing, writing-all, writing-room}
 use Rattle.shape.specs.declared.Shape.{Shape}
 use Rattle.shape.specs.declared.Refusal.{Refusal}
 use Rattle.shape.specs.declared.Refusal.the-variants.{BadShape, BadNodes, PartBatch, WrongLength, BadSymbol, Malformed, NoTranscript, ZeroDivisor}
-use Rattle.shape.specs.Shape.{mostNodes, size, within}
+use Rattle.shape.specs.Shape.{mostNodes, mostLayers, size, within}
 use Rattle.shape.specs.Refusals.{numberOf, refuse, shapeBad, repairBad, layersBad}
 use Rattle.shape.proofs.Accepted.{passed, Shaped, shape-accepted, Repairable, repair-accepted}
 use Rattle.repair.specs.Classes.{batch, node, messageSize}
 use Rattle.card.specs.Numbers.{Numbers, values, broken, readNumbers}
-use Rattle.plan.specs.declared.Transfer.{Transfer}
 use Rattle.plan.specs.Plan.{helperTransfer, deadTransfer, transfers, noTransfer, line, transferLine, total, planText, textOr, listsNumber, withNodes, withLists, shapeNumber, withShape, withFront, leftOver, frontCount, printed, mostTransfers, lineRoom, totalRoom, planRoom}
 use Rattle.plan.specs.Promises.{Few, Plannable, Puts}
 use Rattle.plan.proofs.Puts.{puts-next, puts-last, puts-room}
@@ -71,7 +70,7 @@ module _ (s : Shape) (dead helpers : List ℕ) (p : Plannable s dead helpers) wh
   -- h messages of the h + 1 have no more symbols than a node, and there are k + h senders to each dead node
   pub total-high : length dead * (s .k + length dead) * messageSize s dead < 10 ^ 6
   total-high =
-      omega (arith, mul-le-mul senders-high (let l : length dead * messageSize s dead ≤ 61440 = omega (arith, all-messages, S .size-high) in l))
+      omega (arith, mul-le-mul senders-high (let l : length dead * messageSize s dead ≤ mostLayers * 2 ^ mostNodes = omega (arith, all-messages, S .size-high) in l))
 
   pub few-listed : Few dead helpers
   few-listed = omega (arith, R .some-dead, R .few-dead, R .helpers-count, S .n-high)

@@ -1,6 +1,5 @@
 -- `plan::ending` meets its contract: the end of the line where no number is left. Assumes nothing.
-use mathlib.Core.Path.{sym, ap}
-use Prim.Native.Nat.{_-_}
+use mathlib.Core.Path.{sym}
 use native.Mathlib.Omega.{arith}
 use Rattle.plan.specs.Plan.{ending}
 use Rattle.plan.proofs.Decimals.{ending-none, ending-some}

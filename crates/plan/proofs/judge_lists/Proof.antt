@@ -1,6 +1,5 @@
 -- `plan::judge_lists` meets its contract: input left over, the lists, the layers in turn. Assumes nothing.
 use mathlib.Core.Path.{_≡_, sym, ap, _∙_}
-use native.Mathlib.Omega.{arith}
 use borrow.Author.Needs.{needs}
 use Rattle.shape.specs.Refusals.{layersBad}
 use Rattle.shape.proofs.Batches.{batch-positive}

@@ -1,6 +1,5 @@
 -- `plan::other_rank` meets its contract: the test is the definition's. Assumes nothing.
 use mathlib.Core.Path.{sym}
-use native.Mathlib.Omega.{arith}
 use borrow.Author.Needs.{needs}
 use Rattle.lists.proofs.Tests.{cond-below, cond-beyond}
 use Rattle.repair.specs.Steps.{otherRank}

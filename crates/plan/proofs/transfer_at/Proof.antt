@@ -1,10 +1,9 @@
 -- `plan::transfer_at` meets its contract: a helper's transfer by receiver then sender, or an exchange behind them. Assumes nothing.
-use mathlib.Core.Path.{_≡_, sym, ap, _∙_}
-use Prim.Native.Nat.{_+_, _*_, _-_, _<_}
+use mathlib.Core.Path.{sym}
+use Prim.Native.Nat.{_*_, _-_, _<_}
 use native.Mathlib.Nat.{mul-le-mul}
 use native.Mathlib.Omega.{arith}
-use borrow.Author.Needs.{needs}
-use lib.ListN.{length, getD}
+use lib.ListN.{length}
 use Rattle.lists.proofs.Places.{Place, place-of}
 use Rattle.repair.specs.Classes.{node}
 use Rattle.plan.specs.Plan.{helperTransfer, deadTransfer}

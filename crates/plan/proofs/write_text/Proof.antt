@@ -1,6 +1,5 @@
 -- `plan::write_text` meets its contract: the first four numbers, the shape and h, then the lists. Assumes nothing.
 use mathlib.Core.Path.{_≡_, refl, sym, ap, _∙_}
-use native.Mathlib.Omega.{arith}
 use borrow.Author.Needs.{needs}
 use lib.ListN.{drop}
 use Rattle.shape.specs.Refusals.{answerNumber}
