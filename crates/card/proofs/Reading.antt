@@ -29,12 +29,12 @@ unfolding ahead
 ahead-one [] v n = refl
 ahead-one (x ∷ xs) v n = ap (andThen x) (ahead-one xs v n)
 
-ahead-broken : (xs : List ℕ) → ahead xs broken ≡ broken
+pub ahead-broken : (xs : List ℕ) → ahead xs broken ≡ broken
 unfolding ahead andThen
 ahead-broken [] = refl
 ahead-broken (x ∷ xs) = ap (andThen x) (ahead-broken xs)
 
-ahead-values : (xs rest : List ℕ) → ahead xs (values [] rest) ≡ values xs rest
+pub ahead-values : (xs rest : List ℕ) → ahead xs (values [] rest) ≡ values xs rest
 unfolding ahead andThen
 ahead-values [] rest = refl
 ahead-values (x ∷ xs) rest = ap (andThen x) (ahead-values xs rest)
