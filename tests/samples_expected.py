@@ -1,0 +1,38 @@
+#!/usr/bin/env python3
+"""What crates/samples_test must print: the samples of document 01 ("Samples on both edges"), its numbers written down.
+
+    python3 tests/samples_expected.py > crates/samples_test/stdout
+
+Buffers are lent filled with 9 (65535 in a dead node), so that a line shows what a call left alone.
+"""
+
+ZEROS = [0] * 6
+FIRST = [3, 6] + ZEROS + [253, 247] + ZEROS + [1, 4] + ZEROS
+
+
+def show(*numbers):
+    print(''.join(f'{x} ' for x in numbers))
+
+
+# bytes 3 6: node 1 is 253, 247, then six 0; node 2 is 1, 4, then six 0; it opens as 3 6
+show(0, *FIRST)
+show(0, 3, 6)
+# data symbol 6 at a = 3: node 1 has 252, node 2 has 256
+show(0, 0, 0, 0, 6, 0, 0, 0, 0, 0, 0, 0, 252, 0, 0, 0, 0, 0, 0, 0, 256, 0, 0, 0, 0)
+show(0, 0, 0, 0, 6)
+# an empty transcript writes all zeros and opens as empty
+show(0, *[0] * 24)
+show(0)
+# the first archive, node 0 dead, helpers 1 and 2: messages 243 0 0 0 and 5 0 0 0; then the archive again
+show(0, 243, 0, 0, 0, 5, 0, 0, 0)
+show(*FIRST)
+# its card for node 1: 15 bytes in a buffer of 31, which had zeros behind
+show(15, 3, 1, 1, 1, 2, 253, 1, 247, 1, 0, 0, 0, 0, 0, 0, *[0] * 16)
+# symbol bytes 129 2 (257) give 5, 128 0 gives 6, 128 2 is 256
+show(5, *[9] * 8)
+show(6, *[9] * 8)
+show(2, 256, *[0] * 7)
+# node 1 holding 87 then zeros, length 1: opening gives 7
+show(7, 9)
+# n=3, k=1, h=2 gives 2; n=4, k=1, h=2: L=1 gives 3, L=3 is accepted
+show(2, 3, 0)
