@@ -19,16 +19,16 @@ use Rattle.column.specs.declared.Outcome.{Outcome}
 use Rattle.shape.specs.declared.Shape.{Shape}
 use Rattle.shape.specs.Shape.{size}
 use Rattle.code.specs.Code.{narrow}
-use Rattle.repair.specs.Classes.{node, spotAt, messageSize}
-use Rattle.repair.specs.Steps.{added, place, otherRank, exchangeAt, exchange, solved, ownPairs, contents, helperMessage}
+use Rattle.steps.specs.Classes.{node, spotAt, messageSize}
+use Rattle.steps.specs.Steps.{added, place, otherRank, exchangeAt, exchange, solved, ownPairs, contents, helperMessage}
 use Rattle.repair.specs.Whole.{fromHelper, fromHelpers, fromSender, fromDead, wire, renewed, repairedSymbol, repaired}
-use Rattle.repair.specs.Solving.{slotOf, Helped}
+use Rattle.steps.specs.Solving.{slotOf, Helped}
 use Rattle.repair.specs.Wires.{inward, inwards, toRank, Messaged, Wired, Exchanged, fromOthers, Renewed}
-use Rattle.repair.proofs.Dead.{Dead, Accepted, dead-of, node-below}
-use Rattle.repair.proofs.FirstStep.{exchange-length}
+use Rattle.steps.proofs.Dead.{Dead, Accepted, dead-of, node-below}
+use Rattle.steps.proofs.FirstStep.{exchange-length}
 use Rattle.repair.proofs.Wire.{helpers-at}
-use Rattle.repair.proofs.Passes.{messageAt, message-table}
-use Rattle.repair.proofs.Sending.{other-is}
+use Rattle.steps.proofs.Passes.{messageAt, message-table}
+use Rattle.steps.proofs.Sending.{other-is}
 use Rattle.repair.proofs.OnWire.{helpers-length, to-rank-front}
 
 -- a list of n times m elements by its rows

@@ -8,9 +8,9 @@ use borrow.Author.Needs.{needs}
 use lib.ListN.{length, getD, length-take, length-drop}
 use Rattle.shape.specs.Shape.{size}
 use Rattle.shape.proofs.Accepted.{shape-accepted}
-use Rattle.repair.specs.Classes.{node}
+use Rattle.steps.specs.Classes.{node}
 use Rattle.repair.specs.Wires.{inwards, Wired}
-use Rattle.repair.proofs.Layouts.{ready-dead, node-high}
+use Rattle.steps.proofs.Layouts.{ready-dead, node-high}
 use Rattle.repair.proofs.Parts.{row-within}
 use Rattle.repair.proofs.OnWire.{to-rank-front}
 use Rattle.repair.proofs.Ranked.{Exchanging, exchanging-none, exchanging-more, exchanging-end}

@@ -4,7 +4,7 @@ use mathlib.Core.Bool.{true, false}
 use borrow.Author.Needs.{needs}
 use Rattle.lists.specs.Lists.{outside}
 use Rattle.shape.specs.Refusals.{wrongLength}
-use Rattle.repair.specs.Classes.{messageSize}
+use Rattle.steps.specs.Classes.{messageSize}
 use Rattle.repair.specs.Refusals.{messageRefusal}
 use Rattle.repair.proofs.Judged.{judged-stop, judged-listed, judged-length, judged-symbols, judged-done}
 use Rattle.repair.proofs.judge_message.Statement.{statement}

@@ -8,7 +8,7 @@ use borrow.Author.Needs.{needs}
 use lib.ListN.{length}
 use Rattle.lists.specs.Lists.{outside}
 use Rattle.shape.specs.Refusals.{wrongLength}
-use Rattle.repair.specs.Classes.{messageSize}
+use Rattle.steps.specs.Classes.{messageSize}
 use Rattle.lists.proofs.Tests.{neither}
 use Rattle.shape.specs.Shape.{mostNodes}
 use Rattle.shape.proofs.Accepted.{repair-accepted}

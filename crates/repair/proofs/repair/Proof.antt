@@ -8,7 +8,7 @@ use lib.ListN.{length}
 use Rattle.shape.specs.Refusals.{answerNumber}
 use Rattle.shape.proofs.Answers.{afterwards-done}
 use Rattle.code.specs.Code.{narrow}
-use Rattle.repair.specs.Classes.{messageSize}
+use Rattle.steps.specs.Classes.{messageSize}
 use Rattle.repair.specs.Refusals.{wholeRefusal}
 use Rattle.repair.proofs.Judged.{turned-back, turned-number, lists-ready, lists-accepted, WholePassed, whole-passed}
 use Rattle.repair.proofs.Promised.{repaired-promise}
