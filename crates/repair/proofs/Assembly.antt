@@ -92,8 +92,11 @@ module _ (s : Shape) (dead helpers nodes wire₀ W₁ : List ℕ) (A : Accepted 
   unfolding messageAt added
   told-below u j x l k m =
       let j-low : j < length helpers = rw (A .lists .helpers-count) k in
-      rw (helpers-at narrow s dead helpers nodes A u j x j-low m, message-table narrow D u (piece (size s) (getD helpers j 0) nodes),
-      tabulate-at M (messageAt narrow s dead u (piece (size s) (getD helpers j 0) nodes)) x 0 m)
+      rw (
+        helpers-at narrow s dead helpers nodes A u j x j-low m,
+        message-table narrow D u (piece (size s) (getD helpers j 0) nodes),
+        tabulate-at M (messageAt narrow s dead u (piece (size s) (getD helpers j 0) nodes)) x 0 m,
+      )
       (mod-lt _ (omega arith))
 
   pub wired : Wired s dead helpers W₁

@@ -49,7 +49,11 @@ fn mixed(class: usize, v: usize, i: usize, a: usize) -> usize
     requires { ⌜ (i < mostNodes) × (v < mostNodes) ⌝ }
     ensures { λ r. ⌜ r ≡ bitXor class (cond (eqb (bit i a) 1) (v + 1) 0) ⌝ }
 {
-    if (a >> i) % 2 == 1 { class ^ (v + 1) } else { class }
+    if (a >> i) % 2 == 1 {
+        class ^ (v + 1)
+    } else {
+        class
+    }
 }
 
 // "The class of a is the exclusive or of all v+1, v from 0 to H−1, where bit i_(s×v) of a is set."
@@ -72,7 +76,11 @@ fn flipped(i: usize, a: usize) -> usize
     ensures { λ r. ⌜ r ≡ flip i a ⌝ }
 {
     let worth = two_to(i);
-    if a / worth % 2 == 0 { a + worth } else { a - worth }
+    if a / worth % 2 == 0 {
+        a + worth
+    } else {
+        a - worth
+    }
 }
 
 // The table's column "its class", of rank u.
@@ -96,7 +104,11 @@ fn partner(g: Layout, dead: &[usize], u: usize) -> usize
 {
     let batch = g.batch;
     let top = g.top;
-    if u / batch < top { u % batch } else { u % batch + 1 }
+    if u / batch < top {
+        u % batch
+    } else {
+        u % batch + 1
+    }
 }
 
 // The place of layer w of batch b, at a.
@@ -243,7 +255,15 @@ fn among(u: usize, v: usize) -> usize
 }
 
 // The same by the message of rank u, of those that rank v received: "senders rising".
-fn cross_from(g: Layout, dead: &[usize], v: usize, u: usize, which: usize, received: &[u16], symbols: &mut [u16])
+fn cross_from(
+    g: Layout,
+    dead: &[usize],
+    v: usize,
+    u: usize,
+    which: usize,
+    received: &[u16],
+    symbols: &mut [u16],
+)
     requires { ⌜ (Ready (now dead) g) × (v < length (now dead)) × (u < length (now dead)) × (u ≡ v → ⊥) × (which < 2) ⌝ }
     requires { ⌜ (length (now received) ≡ (length (now dead) - 1) * messageSize (g .shape) (now dead)) × (length (now symbols) ≡ size (g .shape)) ⌝ }
     ensures { λ _. ⌜ Crossed narrow (g .shape) (now (dead .entry)) u which (sentBy (g .shape) (now (dead .entry)) v (now (received .entry)) u) (now (symbols .entry)) (now (symbols .exit)) ⌝ }
@@ -312,7 +332,15 @@ fn sent_of(count: usize, share: usize, x: usize, messages: &[u16]) -> [u32; ENTR
 }
 
 // "adding the equations at both spots leaves r unknowns": the column of rank u's sum x, at e.
-pub fn solve_sum(g: Layout, dead: &[usize], helpers: &[usize], u: usize, messages: &[u16], x: usize, e: usize) -> Solution
+pub fn solve_sum(
+    g: Layout,
+    dead: &[usize],
+    helpers: &[usize],
+    u: usize,
+    messages: &[u16],
+    x: usize,
+    e: usize,
+) -> Solution
     requires { ⌜ (Ready (now dead) g) × (Told (g .shape) (now dead) (now helpers) u (now messages) x) × (spotAt (g .shape) (now dead) u x .a ≡ e % 2 ^ g .shape .n) ⌝ }
     ensures { λ r. ⌜ SolvedSum (g .shape) (now (dead .entry)) (now (helpers .entry)) u (now (messages .entry)) x r ⌝ }
 {
@@ -325,7 +353,13 @@ pub fn solve_sum(g: Layout, dead: &[usize], helpers: &[usize], u: usize, message
     let points = points_with(n, e % places, dead[u]);
     let values = sent_of(count, share, x, messages);
     let mut column = [0u32; ENTRIES];
-    let outcome = complete(MODULUS, &points[..m], helpers, &values[..count], &mut column[..m]);
+    let outcome = complete(
+        MODULUS,
+        &points[..m],
+        helpers,
+        &values[..count],
+        &mut column[..m],
+    );
     Solution {
         outcome,
         values: column,
@@ -345,7 +379,15 @@ fn slot(all: bool, h: usize, u: usize, v: usize) -> usize
 }
 
 // Symbol x of the message to every other new node.
-pub fn hand_out(g: Layout, dead: &[usize], u: usize, all: bool, x: usize, entries: [u32; ENTRIES], out: &mut [u16])
+pub fn hand_out(
+    g: Layout,
+    dead: &[usize],
+    u: usize,
+    all: bool,
+    x: usize,
+    entries: [u32; ENTRIES],
+    out: &mut [u16],
+)
     requires { ⌜ (Ready (now dead) g) × (u < length (now dead)) × (x < messageSize (g .shape) (now dead)) × (length entries ≡ mostEntries) ⌝ }
     requires { ⌜ ((i : ℕ) → i < g .shape .n + 1 → element entries i < narrow .modulus) × (length (now out) ≡ slots all (length (now dead)) * messageSize (g .shape) (now dead)) ⌝ }
     ensures { λ _. ⌜ HandedOut (g .shape) (now (dead .entry)) u all x entries (now (out .entry)) (now (out .exit)) ⌝ }
@@ -362,7 +404,15 @@ pub fn hand_out(g: Layout, dead: &[usize], u: usize, all: bool, x: usize, entrie
 }
 
 // Stores a sum's own pair: entry i_u, and the one behind the n nodes'.
-pub fn store_own(g: Layout, dead: &[usize], u: usize, entries: [u32; ENTRIES], one: usize, other: usize, out: &mut [u16])
+pub fn store_own(
+    g: Layout,
+    dead: &[usize],
+    u: usize,
+    entries: [u32; ENTRIES],
+    one: usize,
+    other: usize,
+    out: &mut [u16],
+)
     requires { ⌜ (Ready (now dead) g) × (u < length (now dead)) × (length entries ≡ mostEntries) × ((i : ℕ) → i < g .shape .n + 1 → element entries i < narrow .modulus) ⌝ }
     requires { ⌜ (one < length (now out)) × (other < length (now out)) ⌝ }
     ensures { λ _. ⌜ now (out .exit) ≡ set (set (now (out .entry)) one (element entries (node (now (dead .entry)) u))) other (element entries (g .shape .n)) ⌝ }
@@ -374,7 +424,15 @@ pub fn store_own(g: Layout, dead: &[usize], u: usize, entries: [u32; ENTRIES], o
 }
 
 // The first step of rank u, from the helpers' messages.
-pub fn first_into(g: Layout, dead: &[usize], helpers: &[usize], u: usize, messages: &[u16], pairs: &mut [u16], sums: &mut [u16]) -> Outcome
+pub fn first_into(
+    g: Layout,
+    dead: &[usize],
+    helpers: &[usize],
+    u: usize,
+    messages: &[u16],
+    pairs: &mut [u16],
+    sums: &mut [u16],
+) -> Outcome
     requires { ⌜ (Ready (now dead) g) × (Helped (g .shape) (now dead) (now helpers) u (now messages)) ⌝ }
     requires { ⌜ (length (now pairs) ≡ 2 * messageSize (g .shape) (now dead)) × (length (now sums) ≡ (length (now dead) - 1) * messageSize (g .shape) (now dead)) ⌝ }
     ensures { λ r. ⌜ FirstDone (g .shape) (now (dead .entry)) (now (helpers .entry)) u (now (messages .entry)) (now (pairs .exit)) (now (sums .exit)) r ⌝ }

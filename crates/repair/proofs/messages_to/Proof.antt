@@ -54,12 +54,13 @@ within c =
     let s = R .share-is in
     let l = c .before .loop in
     let j-low : l .j < length (a .helpers .now) = omega arith in
-    let i-low = rising-below _ _ (st .pre .0 .2) (l .j) j-low in
-    (rw (e, st .pre .1 .0) (row-within _ _ _ i-low),
+    let i-low = rising-below _ _ (st .pre .0 .2) (l .j) j-low in (
+      rw (e, st .pre .1 .0) (row-within _ _ _ i-low),
       omega (arith, st .pre .1 .0, mul-le-mul (h .n-high) (h .size-high)),
       rw (l .inv .2, st .pre .1 .1, s) (row-within _ _ _ j-low),
       rw (l .inv .2, st .pre .1 .1) (mul-le-mul {n₂ = 144} {m₂ = 61440} (omega (arith, h .n-high, rising-fits _ _ (st .pre .0 .2))) (share-high R)),
-      s)
+      s,
+    )
 
 mul-from-2 : tie.Need-mul-from-2 Inv-loop μ-loop
 mul-from-2 c = omega (arith, within (c .before))

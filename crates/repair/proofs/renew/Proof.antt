@@ -65,11 +65,12 @@ within c =
     let r = room st in
     let H = length (a .dead .now) in
     let M = messageSize (a .g .shape) (a .dead .now) in
-    let m : H * (H - 1) * M ≤ 144 * 61440 = mul-le-mul {n₂ = 144} {m₂ = 61440} (mul-le-mul {n₂ = 12} {m₂ = 12} (omega (arith, bounded R .dead-high)) (omega (arith, bounded R .dead-high))) (share-high R) in
-    (rw (c .before .before .before .size .ensures, l .inv .2 .long, st .pre .2) (row-within _ _ _ i-low),
+    let m : H * (H - 1) * M ≤ 144 * 61440 = mul-le-mul {n₂ = 144} {m₂ = 61440} (mul-le-mul {n₂ = 12} {m₂ = 12} (omega (arith, bounded R .dead-high)) (omega (arith, bounded R .dead-high))) (share-high R) in (
+      rw (c .before .before .before .size .ensures, l .inv .2 .long, st .pre .2) (row-within _ _ _ i-low),
       omega (arith, l .inv .2 .long, st .pre .2, mul-le-mul (h .n-high) (h .size-high)),
       rw (st .pre .3, R .share-is, ← (r .all)) (omega (arith, row-within H ((H - 1) * M) (l .u) u-low)),
-      omega (arith, st .pre .3, r .all, r .short, m))
+      omega (arith, st .pre .3, r .all, r .short, m),
+    )
 
 mul-at-2 : tie.Need-mul-at-2 Inv-loop μ-loop
 mul-at-2 c = omega (arith, within (c .before))

@@ -46,9 +46,10 @@ send-requires : tie.Need-send-requires
 send-requires c κs =
     let k = known (c .before .before .before .before) in
     let A = lists-accepted _ _ _ _ (k .listed) in
-    let g = c .before .before .before .laid-out .ensures in
-    ((g .1, c .before .before .told-by .ensures, rw (g .0) (A .lists .helpers-rising), rw (g .0) (A .lists .helpers-count)),
-      (rw (g .0) (k .long), rw (g .0) (omega (arith, k .due, wire-due (c .before .before .before .before .before .before .before .before .before .before .before .before .args .s) (c .before .before .before .before .before .before .before .before .before .before .before .before .args .dead .now) (A .lists .some-dead)))))
+    let g = c .before .before .before .laid-out .ensures in (
+      (g .1, c .before .before .told-by .ensures, rw (g .0) (A .lists .helpers-rising), rw (g .0) (A .lists .helpers-count)),
+      (rw (g .0) (k .long), rw (g .0) (omega (arith, k .due, wire-due (c .before .before .before .before .before .before .before .before .before .before .before .before .args .s) (c .before .before .before .before .before .before .before .before .before .before .before .before .args .dead .now) (A .lists .some-dead)))),
+    )
 
 exchange-requires : tie.Need-exchange-requires
 exchange-requires c κs =

@@ -15,7 +15,7 @@ div-if1 : tie.Need-div-if1
 div-if1 c = rw (c .two-to .ensures) (omega (arith, pow-pos (c .before .args .i)))
 
 add-result : tie.Need-add-result
-add-result c = 
+add-result c =
     let l : c .before .before .args .i ≤ mostNodes = omega arith in
     omega (arith, c .before .two-to .ensures, pow-mono l)
 

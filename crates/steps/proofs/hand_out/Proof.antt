@@ -50,7 +50,6 @@ slot-requires c κs =
     let p = c .before .before .before .before .before .pre .0 in
     (p .1, omega arith, c .if1 .left, omega (arith, bounded (p .0) .dead-high))
 
-
 -- the place is within the buffer
 within : (c : tie.After-slot Inv-loop μ-loop) →
     let a = c .before .before .before .before .before .before .args in
@@ -60,10 +59,11 @@ within c =
     let a = st .args in
     let p = st .pre .0 in
     let e = p .0 .share-is in
-    let k : a .x < a .g .share = rw e (p .2) in
-    (rw (st .pre .1 .1, ← e) (digits-lt (c .slot .ensures .0) k),
+    let k : a .x < a .g .share = rw e (p .2) in (
+      rw (st .pre .1 .1, ← e) (digits-lt (c .slot .ensures .0) k),
       rw (st .pre .1 .1) (mul-le-mul {n₂ = 144} {m₂ = 61440} (slots-few _ _ (omega (arith, bounded (p .0) .dead-high))) (share-high (p .0))),
-      e)
+      e,
+    )
 
 mul-at : tie.Need-mul-at Inv-loop μ-loop
 mul-at c = omega (arith, within c)
