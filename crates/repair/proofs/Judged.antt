@@ -16,7 +16,7 @@ use Rattle.shape.specs.declared.Refusal.{Refusal}
 use Rattle.shape.specs.declared.Answer.{Answer}
 use Rattle.shape.specs.declared.Answer.the-variants.{Done, Refused}
 use Rattle.shape.specs.Refusals.{numberOf, answerNumber, afterwards, refuse, shapeBad, repairBad, layersBad, wrongLength, symbolBad}
-use Rattle.shape.proofs.Accepted.{passed, Shaped, shape-accepted, Repairable, repair-accepted, layers-accepted, symbols-accepted}
+use Rattle.shape.proofs.Accepted.{passed, shape-accepted, repair-accepted, layers-accepted, symbols-accepted}
 use Rattle.shape.proofs.Answers.{number-positive, afterwards-refused}
 use Rattle.code.specs.Code.{narrow}
 use Rattle.code.proofs.Accepted.{narrow-accepted}

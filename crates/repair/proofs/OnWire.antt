@@ -8,7 +8,7 @@ use native.Mathlib.Omega.{arith}
 use borrow.Rule.Slice.PartMut.{putMid}
 use lib.ListN.{length, getD, take, drop, length-drop}
 use lib.Seq.{drop-drop}
-use Rattle.lists.specs.Lists.{flat, piece}
+use Rattle.lists.specs.Lists.{piece}
 use Rattle.lists.proofs.Flats.{flat-length}
 use Rattle.lists.proofs.Buffers.{part-of}
 use Rattle.shape.specs.declared.Shape.{Shape}

@@ -1,23 +1,19 @@
 -- What a layout's numbers are bounded by, and the places they count.
-use mathlib.Core.Path.{_≡_, sym, ap, ap₂, _∙_}
-use mathlib.Core.Logic.{_≢_}
+use mathlib.Core.Path.{_≡_, ap, ap₂}
 use mathlib.Core.List.{List}
-use Prim.Native.Nat.{ℕ, _+_, _*_, _/_, _%_, _^_, _≤_, _<_}
+use Prim.Native.Nat.{ℕ, _+_, _*_, _^_, _≤_, _<_}
 use native.Mathlib.Nat.{div-add-mod', mul-le-mul-left, mul-le-mul, mul-comm, div-le-self, le-trans}
 use native.Mathlib.Omega.{arith}
-use lib.Arith.{digits-lt, digits-div, digits-mod}
+use lib.Arith.{digits-lt}
 use lib.ListN.{length}
 use lib.Pow.{pow-pos}
-use Rattle.lists.proofs.Members.{rising-below}
 use Rattle.shape.specs.Shape.{mostNodes, mostLayers, size}
-use Rattle.shape.specs.declared.Shape.{Shape}
 use Rattle.shape.proofs.Accepted.{Shaped, shape-accepted}
 use Rattle.steps.specs.declared.Layout.{Layout}
 use Rattle.steps.specs.Classes.{batch, top, node, placeOf, messageSize}
 use Rattle.steps.specs.Layout.{Ready}
-use Rattle.steps.proofs.Sizes.{batch-whole, batch-pos, first-lt}
+use Rattle.steps.proofs.Sizes.{batch-whole, batch-pos}
 use Rattle.steps.proofs.Dead.{Dead, node-below}
-use Rattle.steps.proofs.Adding.{row-below}
 
 pub record Bounds (dead : List ℕ) (g : Layout) : Type 0 where
   pub n-low : 3 ≤ g .shape .n

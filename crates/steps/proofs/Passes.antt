@@ -1,12 +1,11 @@
 -- A loop over the places of all batches' layers 0 that looks at those of a rank's class: which sum it has come to.
-use mathlib.Core.Path.{_≡_, refl, sym, ap, ap₂, _∙_}
+use mathlib.Core.Path.{_≡_, sym, ap, ap₂, _∙_}
 use mathlib.Core.Bool.{Bool, true, false, cond}
 use mathlib.Core.List.{List}
 use Prim.Native.Nat.{ℕ, _+_, _*_, _/_, _%_, _^_, _≤_, _<_}
 use native.Mathlib.Nat.{mod-lt, div-lt-iff-lt-mul}
-use native.Mathlib.Omega.{arith}
 use borrow.Author.Tests.{eqb-true, eqb-false}
-use lib.Arith.{digits-lt, digits-div, digits-mod}
+use lib.Arith.{digits-lt}
 use lib.Dec.{eqb}
 use lib.ListN.{length, getD}
 use lib.Pow.{pow-pos}
@@ -22,7 +21,7 @@ use Rattle.steps.specs.Classes.{batch, top, node, classOf, rankClass, Su
 use Rattle.steps.specs.Steps.{added, addedAt, helperMessage}
 use Rattle.steps.specs.Layout.{Ready}
 use Rattle.steps.proofs.Sizes.{batch-pos}
-use Rattle.steps.proofs.Ranks.{rankClass-le, partner-lt}
+use Rattle.steps.proofs.Ranks.{partner-lt}
 use Rattle.steps.proofs.Dead.{Dead, flip-node-lt}
 use Rattle.steps.proofs.Counts.{message-is, spots-size}
 use Rattle.steps.proofs.Sums.{spots-at, sumAt-lt}

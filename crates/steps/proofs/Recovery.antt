@@ -3,9 +3,9 @@ use mathlib.Core.Path.{_≡_, refl, sym, ap, ap₂, subst, _∙_}
 use mathlib.Core.Logic.{_≢_, _⊎_, inl, inr}
 use mathlib.Core.Bool.{Bool, true, false, _||_, cond}
 use mathlib.Core.List.{List}
-use Prim.Native.Nat.{ℕ, zero, suc, _+_, _*_, _-_, _/_, _%_, _^_, _≤_, _<_}
+use Prim.Native.Nat.{ℕ, _+_, _*_, _-_, _/_, _%_, _^_, _≤_, _<_}
 use native.Mathlib.Decide.{ℕ-discrete, decLt}
-use native.Mathlib.Nat.{mod-lt, div-add-mod, div-add-mod', div-lt-iff-lt-mul, mul-le-mul-left, eq-of-mul-eq-mul-left}
+use native.Mathlib.Nat.{mod-lt, div-add-mod, div-add-mod', div-lt-iff-lt-mul, eq-of-mul-eq-mul-left}
 use native.Mathlib.Omega.{arith}
 use borrow.Author.Tests.{lt-ltb, eqb-true, eqb-false}
 use lib.Bits.{bitXor, xor-self, xor-zero-l}
@@ -20,14 +20,14 @@ use Rattle.field.specs.Residues.{minus}
 use Rattle.shape.specs.declared.Shape.{Shape}
 use Rattle.shape.specs.Shape.{size}
 use Rattle.code.specs.Code.{Code}
-use Rattle.steps.specs.Classes.{batch, top, node, classOf, rankClass, partner, turningRank, rankAt, placeOf, Sum, sumAt, sumPlace, messageSize}
-use Rattle.steps.specs.Steps.{place, own, sent, across, origin, layer0, layer, symbolOf, contentsAt, contents}
+use Rattle.steps.specs.Classes.{batch, top, node, classOf, rankClass, partner, turningRank, rankAt, placeOf, Sum, sumAt, sumPlace}
+use Rattle.steps.specs.Steps.{own, sent, across, origin, layer0, layer, symbolOf, contentsAt, contents}
 use Rattle.steps.specs.Storing.{sumSymbol, Paired, sentBy, Crossed, Begun}
 use Rattle.steps.proofs.Sizes.{batch-pos, parts}
-use Rattle.steps.proofs.Dead.{Dead, node-below, flip-node-lt}
+use Rattle.steps.proofs.Dead.{Dead, flip-node-lt}
 use Rattle.steps.proofs.Turns.{class-le, class-turned, partner-keeps}
 use Rattle.steps.proofs.Ranks.{Rank, partner-lt, rankClass-le, turning-rank, rank-at}
-use Rattle.steps.proofs.Storing.{place-own, sum-first, sum-other, Turning, turning, turning-class}
+use Rattle.steps.proofs.Storing.{place-own, sum-first, sum-other, turning, turning-class}
 
 -- ---- which rank's sums end at a place: each place but class 0 of layer 0 is the other place of one rank's sum, and of no other's
 

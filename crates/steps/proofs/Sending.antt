@@ -1,12 +1,11 @@
 -- A first step, sum by sum: the own pairs and the messages handed out so far.
 use mathlib.Core.Path.{_≡_, refl, sym, ap, ap₂, _∙_}
 use mathlib.Core.Logic.{_≢_, _⊎_, inl, inr}
-use mathlib.Core.Bool.{Bool, true, false}
+use mathlib.Core.Bool.{Bool, false}
 use mathlib.Core.List.{List, [], _∷_, _++_, append-assoc}
 use Prim.Native.Nat.{ℕ, _+_, _*_, _-_, _/_, _%_, _≤_, _<_}
 use native.Mathlib.Decide.{ℕ-discrete}
 use native.Mathlib.Omega.{arith}
-use lib.Arith.{digits-lt}
 use lib.ListN.{length, getD, set, length-append}
 use lib.Seq.{ext-getD}
 use Rattle.lists.specs.Lists.{flat}
@@ -20,7 +19,7 @@ use Rattle.shape.specs.declared.Shape.{Shape}
 use Rattle.code.specs.Code.{narrow}
 use Rattle.steps.specs.Classes.{node, messageSize}
 use Rattle.steps.specs.Steps.{place, otherRank, solved, ownPair, ownPairs, exchangeAt, exchange, exchangeTo, exchanges}
-use Rattle.steps.specs.Solving.{Told, Helped, slotOf, slots, HandedOut}
+use Rattle.steps.specs.Solving.{Told, Helped, slotOf, HandedOut}
 use Rattle.steps.proofs.Dead.{Dead, node-below}
 use Rattle.steps.proofs.FirstStep.{exchange-length}
 use Rattle.steps.proofs.Slots.{slot-symbol-own}

@@ -1,15 +1,15 @@
 -- Which message is whose among those that new nodes hand out; and the points of a first step's entries.
-use mathlib.Core.Path.{_≡_, refl, sym, ap, ap₂, _∙_}
+use mathlib.Core.Path.{_≡_, sym, ap, ap₂, _∙_}
 use mathlib.Core.Logic.{_≢_, _⊎_, inl, inr}
 use mathlib.Core.Bool.{Bool, true, false}
 use mathlib.Core.List.{List}
-use Prim.Native.Nat.{ℕ, suc, _+_, _*_, _-_, _/_, _%_, _≤_, _<_}
+use Prim.Native.Nat.{ℕ, _+_, _*_, _-_, _/_, _%_, _≤_, _<_}
 use native.Mathlib.Nat.{mul-le-mul}
 use native.Mathlib.Omega.{arith}
 use lib.Arith.{digits-lt, digits-div, digits-mod}
-use lib.ListN.{length, getD, set, take, length-set, length-take}
+use lib.ListN.{length, getD, set, take, length-set}
 use lib.Seq.{ext-getD, getD-take, getD-set-same, getD-set-other, length-take-le}
-use Rattle.lists.proofs.Tests.{below-or-not, cond-below, cond-beyond}
+use Rattle.lists.proofs.Tests.{below-or-not}
 use Rattle.column.specs.Solving.{mostEntries}
 use Rattle.code.specs.Code.{narrow, point, morePoints}
 use Rattle.code.proofs.NodePoints.{more-length, more-at, more-behind}

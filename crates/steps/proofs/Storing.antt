@@ -1,30 +1,27 @@
 -- The places of a rank's sums: no two are one; and the loops that store at them.
-use mathlib.Core.Path.{_≡_, refl, sym, ap, ap₂, subst, _∙_}
+use mathlib.Core.Path.{_≡_, refl, sym, ap, ap₂, _∙_}
 use mathlib.Core.Logic.{_≢_, _⊎_, inl, inr}
-use mathlib.Core.Bool.{Bool, true, false, cond}
+use mathlib.Core.Bool.{cond}
 use mathlib.Core.List.{List}
-use Prim.Native.Nat.{ℕ, zero, suc, _+_, _*_, _-_, _/_, _%_, _^_, _≤_, _<_}
-use native.Mathlib.Decide.{ℕ-discrete, decLt}
-use native.Mathlib.Nat.{mul-comm, div-add-mod, div-add-mod', mod-lt, mul-zero}
+use Prim.Native.Nat.{ℕ, zero, suc, _+_, _*_, _-_, _/_, _%_, _^_, _<_}
+use native.Mathlib.Decide.{decLt}
+use native.Mathlib.Nat.{mul-comm, div-add-mod, div-add-mod'}
 use native.Mathlib.Omega.{arith}
 use borrow.Author.Tests.{lt-ltb, le-ltb, eq-eqb}
-use lib.Arith.{digits-lt, digits-div, digits-mod}
+use lib.Arith.{digits-div, digits-mod}
 use lib.Bits.{bitXor, xor-zero-l}
 use lib.ListN.{length, getD, set, length-set}
 use lib.Seq.{getD-set-same, getD-set-other}
-use lib.Pow.{pow-pos}
 use Rattle.lists.specs.Digits.{flip}
-use Rattle.lists.proofs.Tests.{cond-equal, cond-unequal}
 use Rattle.lists.proofs.Flips.{flip-flip}
 use Rattle.field.specs.Residues.{minus}
 use Rattle.shape.specs.declared.Shape.{Shape}
-use Rattle.shape.specs.Shape.{size}
 use Rattle.code.specs.Code.{Code}
 use Rattle.steps.specs.Classes.{batch, top, node, classOf, rankClass, partner, turningRank, placeOf, Sum, sumAt, sumPlace, placeAt, messageSize}
-use Rattle.steps.specs.Storing.{sumSymbol, Paired, Crossed}
+use Rattle.steps.specs.Storing.{sumSymbol, Crossed}
 use Rattle.steps.proofs.Sizes.{batch-pos, parts}
 use Rattle.steps.proofs.Ranks.{partner-lt}
-use Rattle.steps.proofs.Dead.{Dead, node-below, flip-node-lt}
+use Rattle.steps.proofs.Dead.{Dead, flip-node-lt}
 use Rattle.steps.proofs.Turns.{class-turns}
 use Rattle.steps.proofs.Sums.{sumAt-lt}
 use Rattle.steps.proofs.Passes.{Here}

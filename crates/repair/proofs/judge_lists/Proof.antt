@@ -1,9 +1,9 @@
 -- `repair::judge_lists` meets its contract: causes 1, 2 and 3 in turn. Assumes nothing.
 use mathlib.Core.Path.{_≡_, sym, _∙_}
-use mathlib.Core.Bool.{true, false}
+use mathlib.Core.Bool.{false}
 use native.Mathlib.Omega.{arith}
 use borrow.Author.Needs.{needs}
-use Rattle.shape.specs.Refusals.{shapeBad, repairBad}
+use Rattle.shape.specs.Refusals.{shapeBad}
 use Rattle.lists.proofs.Tests.{neither}
 use Rattle.shape.proofs.Accepted.{shape-accepted, repair-accepted}
 use Rattle.steps.specs.Classes.{batch}

@@ -1,16 +1,15 @@
 -- `repair::renew` meets its contract: the second steps of the ranks passed are done. Assumes nothing.
-use mathlib.Core.Path.{_≡_, refl, sym, ap, ap₂, _∙_}
+use mathlib.Core.Path.{_≡_, refl, ap, _∙_}
 use mathlib.Core.List.{List}
 use Prim.Native.Nat.{ℕ, _+_, _-_, _*_, _≤_, _<_}
 use native.Mathlib.Nat.{mul-le-mul}
 use native.Mathlib.Omega.{arith}
 use borrow.Author.Needs.{needs}
-use lib.ListN.{length, getD, take, drop, length-take, length-drop}
+use lib.ListN.{length, getD, length-take, length-drop}
 use Rattle.lists.specs.Lists.{piece}
 use Rattle.shape.specs.Shape.{size}
 use Rattle.shape.proofs.Accepted.{shape-accepted}
 use Rattle.steps.specs.Classes.{node, messageSize}
-use Rattle.repair.specs.Wires.{inwards, fromOthers}
 use Rattle.steps.proofs.Layouts.{ready-dead, node-high, bounded, share-high}
 use Rattle.repair.proofs.Parts.{row-within, piece-part}
 use Rattle.repair.proofs.OnWire.{Room, wire-room, lent-others}

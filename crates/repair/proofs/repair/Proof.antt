@@ -1,14 +1,11 @@
 -- `repair::repair` meets its contract: turned back, or the wire and the nodes of the whole repair, assembled. Assumes nothing.
-use mathlib.Core.Path.{_≡_, refl, sym, ap, ap₂, _∙_}
-use mathlib.Core.List.{List}
-use Prim.Native.Nat.{ℕ, _+_, _-_, _*_, _≤_, _<_}
+use mathlib.Core.Path.{_≡_, sym, ap, _∙_}
+use Prim.Native.Nat.{ℕ, _-_}
 use native.Mathlib.Omega.{arith}
 use borrow.Author.Needs.{needs}
 use lib.ListN.{length}
 use Rattle.shape.specs.Refusals.{answerNumber}
-use Rattle.shape.proofs.Answers.{afterwards-done}
 use Rattle.code.specs.Code.{narrow}
-use Rattle.steps.specs.Classes.{messageSize}
 use Rattle.repair.specs.Refusals.{wholeRefusal}
 use Rattle.repair.proofs.Judged.{turned-back, turned-number, lists-ready, lists-accepted, WholePassed, whole-passed}
 use Rattle.repair.proofs.Promised.{repaired-promise}

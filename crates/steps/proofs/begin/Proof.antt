@@ -1,13 +1,9 @@
 -- `steps::begin` meets its contract: by its class. Assumes nothing.
 use mathlib.Core.Path.{_≡_, refl, sym, ap, ap₂, _∙_}
-use Prim.Native.Nat.{ℕ, _+_, _-_, _*_, _≤_, _<_}
-use native.Mathlib.Nat.{mul-le-mul}
+use Prim.Native.Nat.{_-_, _*_}
 use native.Mathlib.Omega.{arith}
 use borrow.Author.Needs.{needs}
-use lib.ListN.{length}
-use Rattle.code.specs.Code.{narrow}
 use Rattle.steps.specs.Classes.{rankClass, turningRank}
-use Rattle.steps.specs.Storing.{sentBy, Crossed}
 use Rattle.steps.proofs.Layouts.{bounded}
 use Rattle.steps.proofs.Ranks.{Rank, turning-rank, rankClass-le}
 use Rattle.steps.proofs.begin.Statement.{statement}

@@ -1,7 +1,7 @@
 -- `steps::cross` meets its contract: what the sums passed leave stands at their places, and elsewhere what stood there. Assumes nothing.
-use mathlib.Core.Path.{_≡_, refl, sym, ap, ap₂, _∙_}
+use mathlib.Core.Path.{_≡_, sym, ap, ap₂, _∙_}
 use mathlib.Core.List.{List}
-use Prim.Native.Nat.{ℕ, _+_, _-_, _*_, _/_, _%_, _^_, _≤_, _<_}
+use Prim.Native.Nat.{ℕ, _-_, _≤_}
 use native.Mathlib.Omega.{arith}
 use borrow.Author.Needs.{needs}
 use borrow.Author.Tests.{not-true, not-false}
@@ -11,7 +11,7 @@ use Rattle.shape.specs.Shape.{size}
 use Rattle.code.specs.Code.{narrow}
 use Rattle.field.specs.Residues.{minus}
 use Rattle.column.specs.Solving.{element}
-use Rattle.steps.specs.Classes.{messageSize, sumAt, placeAt}
+use Rattle.steps.specs.Classes.{sumAt, placeAt}
 use Rattle.steps.specs.Storing.{sumSymbol}
 use Rattle.steps.proofs.Layouts.{share-high, ready-dead}
 use Rattle.steps.proofs.Passes.{numberAt, number-none, number-yes, number-no, Here, here, missed, sum-below}

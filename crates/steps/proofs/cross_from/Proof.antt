@@ -1,7 +1,6 @@
 -- `steps::cross_from` meets its contract: the part of the messages received that is lent is the rank's message. Assumes nothing.
-use mathlib.Core.Path.{_≡_, refl, sym, ap, ap₂, _∙_}
-use mathlib.Core.List.{List}
-use Prim.Native.Nat.{ℕ, _+_, _-_, _*_, _≤_, _<_}
+use mathlib.Core.Path.{_≡_, ap, ap₂, _∙_}
+use Prim.Native.Nat.{_+_, _-_, _*_, _≤_, _<_}
 use native.Mathlib.Nat.{mul-le-mul-right, suc-mul}
 use native.Mathlib.Omega.{arith}
 use borrow.Author.Needs.{needs}
@@ -9,12 +8,10 @@ use lib.ListN.{length, getD, drop, length-take, length-drop}
 use lib.Seq.{getD-take, getD-drop}
 use Rattle.lists.proofs.Buffers.{part-of}
 use Rattle.code.specs.Code.{narrow}
-use Rattle.column.specs.Solving.{element}
 use Rattle.steps.specs.Classes.{messageSize}
-use Rattle.steps.specs.Steps.{place}
 use Rattle.steps.specs.Storing.{sentBy}
 use Rattle.steps.proofs.Placing.{place-below}
-use Rattle.steps.proofs.Layouts.{share-high, ready-dead}
+use Rattle.steps.proofs.Layouts.{ready-dead}
 use Rattle.steps.proofs.Storing.{crossed-sums}
 use Rattle.steps.proofs.cross_from.Statement.{statement}
 use Rattle.steps.proofs.cross_from.Tie as tie

@@ -1,18 +1,17 @@
 -- `steps::first_into` meets its contract: the pairs and the messages of the sums passed stand. Assumes nothing.
-use mathlib.Core.Path.{_≡_, refl, sym, ap, ap₂, _∙_}
-use mathlib.Core.Bool.{true, false}
-use mathlib.Core.List.{List}
-use Prim.Native.Nat.{ℕ, _+_, _-_, _*_, _/_, _%_, _^_, _≤_, _<_}
+use mathlib.Core.Path.{_≡_, refl, sym, ap, _∙_}
+use mathlib.Core.Bool.{false}
+use Prim.Native.Nat.{ℕ, _-_, _*_, _≤_}
 use native.Mathlib.Omega.{arith}
 use borrow.Author.Needs.{needs}
 use borrow.Author.Tests.{not-true, not-false}
-use lib.ListN.{length, getD, length-set}
+use lib.ListN.{length}
 use Rattle.lists.specs.Lists.{flat}
 use Rattle.lists.proofs.Buffers.{onto}
 use Rattle.code.specs.Code.{narrow}
-use Rattle.steps.specs.Classes.{rankClass, node, spotAt, spot, messageSize}
+use Rattle.steps.specs.Classes.{spot, messageSize}
 use Rattle.steps.specs.Steps.{ownPair}
-use Rattle.steps.specs.Solving.{Told, slots}
+use Rattle.steps.specs.Solving.{slots}
 use Rattle.steps.proofs.Ranks.{rankClass-le}
 use Rattle.steps.proofs.Layouts.{share-high, ready-dead, node-high}
 use Rattle.steps.proofs.Passes.{numberAt, number-none, number-yes, number-no, number-all, Here, here, spot-number}

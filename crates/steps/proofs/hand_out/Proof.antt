@@ -1,6 +1,6 @@
 -- `steps::hand_out` meets its contract: the symbols of the ranks passed stand at their places. Assumes nothing.
-use mathlib.Core.Path.{_≡_, refl, sym, ap, _∙_}
-use mathlib.Core.Bool.{Bool, true, not}
+use mathlib.Core.Path.{_≡_, refl, ap}
+use mathlib.Core.Bool.{Bool, not}
 use mathlib.Core.List.{List}
 use Prim.Native.Nat.{ℕ, _+_, _-_, _*_, _≤_, _<_}
 use native.Mathlib.Nat.{mul-le-mul}
@@ -11,9 +11,9 @@ use lib.Arith.{digits-lt}
 use lib.Dec.{eqb}
 use lib.ListN.{length, getD}
 use Rattle.lists.proofs.Scatters.{Scattered, scattered-none, scattered-skip, scattered-more}
-use Rattle.column.specs.Solving.{mostEntries, element}
+use Rattle.column.specs.Solving.{element}
 use Rattle.steps.specs.Classes.{node, messageSize}
-use Rattle.steps.specs.Solving.{slotOf, slots}
+use Rattle.steps.specs.Solving.{slotOf}
 use Rattle.steps.proofs.Layouts.{bounded, share-high, node-high}
 use Rattle.steps.proofs.Slots.{slot-symbol-own, slots-few}
 use Rattle.steps.proofs.hand_out.Statement.{statement}

@@ -1,15 +1,14 @@
 -- `steps::laid_out` meets its contract: each number is its definition's. Assumes nothing.
-use mathlib.Core.Path.{_≡_, refl, sym, ap, _∙_}
+use mathlib.Core.Path.{_≡_, refl, ap, _∙_}
 use mathlib.Core.List.{List}
-use Prim.Native.Nat.{ℕ, _+_, _-_, _*_, _/_, _<_, _≤_}
+use Prim.Native.Nat.{ℕ, _+_, _-_, _/_, _<_, _≤_}
 use native.Mathlib.Nat.{mul-div-right}
 use native.Mathlib.Omega.{arith}
 use borrow.Author.Needs.{needs}
 use lib.ListN.{length}
-use Rattle.shape.specs.Shape.{mostNodes, size}
+use Rattle.shape.specs.Shape.{size}
 use Rattle.shape.proofs.Accepted.{Shaped, shape-accepted}
 use Rattle.steps.specs.Classes.{batch, top, messageSize}
-use Rattle.steps.specs.Layout.{Ready}
 use Rattle.steps.proofs.Sizes.{batch-pos, batch-whole}
 use Rattle.steps.proofs.laid_out.Statement.{statement}
 use Rattle.steps.proofs.laid_out.Tie as tie

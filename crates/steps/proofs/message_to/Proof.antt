@@ -1,7 +1,6 @@
 -- `steps::message_to` meets its contract: the message is written from the front, a sum at a time. Assumes nothing.
 use mathlib.Core.Path.{_≡_, refl, sym, ap, _∙_}
-use mathlib.Core.Bool.{true}
-use Prim.Native.Nat.{_+_, _-_, _*_, _%_, _^_, _≤_, _<_}
+use Prim.Native.Nat.{_-_, _*_, _≤_}
 use native.Mathlib.Omega.{arith}
 use borrow.Author.Needs.{needs}
 use borrow.Author.Tests.{not-true, not-false}
@@ -9,9 +8,9 @@ use lib.ListN.{length, length-set}
 use Rattle.lists.specs.Lists.{tabulate}
 use Rattle.lists.proofs.Buffers.{filled, filled-none, filled-more, filled-end}
 use Rattle.code.specs.Code.{narrow}
-use Rattle.steps.specs.Classes.{rankClass, messageSize}
+use Rattle.steps.specs.Classes.{messageSize}
 use Rattle.steps.proofs.Ranks.{rankClass-le}
-use Rattle.steps.proofs.Layouts.{count-high, share-high, ready-dead}
+use Rattle.steps.proofs.Layouts.{share-high, ready-dead}
 use Rattle.steps.proofs.Passes.{numberAt, number-none, number-yes, number-no, number-all, Here, here, messageAt, message-table, message-here}
 use Rattle.steps.proofs.message_to.Statement.{statement}
 use Rattle.steps.proofs.message_to.Tie as tie

@@ -2,7 +2,7 @@
 use mathlib.Core.Path.{sym}
 use borrow.Author.Needs.{needs}
 use borrow.Author.Tests.{eq-eqb, ne-eqb}
-use lib.Bits.{bitXor, xor-zero-r}
+use lib.Bits.{xor-zero-r}
 use Rattle.lists.specs.Digits.{bit}
 use Rattle.steps.proofs.mixed.Statement.{statement}
 use Rattle.steps.proofs.mixed.Tie as tie

@@ -1,5 +1,4 @@
 -- `steps::of_class` meets its contract: by the class. Assumes nothing.
-use mathlib.Core.Path.{ap, _∙_}
 use native.Mathlib.Omega.{arith}
 use borrow.Author.Needs.{needs}
 use Rattle.steps.specs.Classes.{inClass}

@@ -1,5 +1,5 @@
 -- `steps::place_of` meets its contract: the layer is one of few, and the place below the size of a node, so that nothing wraps. Assumes nothing.
-use Prim.Native.Nat.{_+_, _*_, _<_, _≤_}
+use Prim.Native.Nat.{_+_, _*_, _<_}
 use native.Mathlib.Omega.{arith}
 use Rattle.shape.specs.Shape.{mostLayers}
 use Rattle.steps.proofs.Layouts.{bounded, layer-lt, placed}

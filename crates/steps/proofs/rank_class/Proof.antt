@@ -1,7 +1,6 @@
 -- `steps::rank_class` meets its contract: the table of document 01, row by row. Assumes nothing.
 use mathlib.Core.Path.{sym}
 use native.Mathlib.Omega.{arith}
-use borrow.Author.Needs.{needs}
 use borrow.Author.Tests.{eq-eqb, ne-eqb, lt-ltb, le-ltb}
 use Rattle.steps.specs.Classes.{rankClass}
 use Rattle.steps.proofs.Layouts.{bounded}

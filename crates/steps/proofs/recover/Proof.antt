@@ -1,19 +1,14 @@
 -- `steps::recover` meets its contract: the places of the ranks passed are settled. Assumes nothing.
-use mathlib.Core.Path.{_≡_, refl, sym, ap, subst, _∙_}
-use mathlib.Core.Logic.{_⊎_, inl, inr}
-use mathlib.Core.Bool.{Bool, true, false, _||_}
+use mathlib.Core.Path.{_≡_, refl, subst, _∙_}
 use mathlib.Core.List.{List}
-use Prim.Native.Nat.{ℕ, _+_, _-_, _*_, _≤_, _<_}
-use native.Mathlib.Decide.{ℕ-discrete}
+use Prim.Native.Nat.{ℕ, _-_, _≤_}
 use native.Mathlib.Omega.{arith}
 use borrow.Author.Needs.{needs}
-use borrow.Author.Tests.{eqb-true, eqb-false}
+use borrow.Author.Tests.{eqb-false}
 use lib.ListN.{length}
 use Rattle.lists.proofs.Tests.{neither}
 use Rattle.shape.specs.Shape.{size}
 use Rattle.code.specs.Code.{narrow}
-use Rattle.steps.specs.Classes.{rankClass}
-use Rattle.steps.specs.Storing.{Paired}
 use Rattle.steps.proofs.Layouts.{ready-dead}
 use Rattle.steps.proofs.Recovery.{Known, begun, skipped, crossed, recovered}
 use Rattle.steps.proofs.recover.Statement.{statement}

@@ -1,13 +1,12 @@
 -- `steps::sent_of` meets its contract: the values of the helpers passed stand. Assumes nothing.
-use mathlib.Core.Path.{_≡_, refl, sym, ap, _∙_}
+use mathlib.Core.Path.{_≡_, refl}
 use Prim.Native.Nat.{ℕ, _+_, _-_, _*_, _≤_, _<_}
-use native.Mathlib.Nat.{mul-le-mul}
 use native.Mathlib.Omega.{arith}
 use borrow.Author.Needs.{needs}
 use lib.Arith.{digits-lt}
 use lib.ListN.{length, getD, length-set}
 use Rattle.lists.proofs.Stores.{stored-more}
-use Rattle.column.specs.Solving.{mostEntries, element}
+use Rattle.column.specs.Solving.{mostEntries}
 use Rattle.steps.proofs.sent_of.Statement.{statement}
 use Rattle.steps.proofs.sent_of.Tie as tie
 

@@ -1,12 +1,11 @@
 -- `steps::slot` meets its contract: among all exchanges, or among its own. Assumes nothing.
-use mathlib.Core.Path.{_≡_, sym, ap, _∙_}
-use mathlib.Core.Bool.{true, false}
-use Prim.Native.Nat.{_+_, _-_, _*_, _≤_, _<_}
+use mathlib.Core.Path.{_≡_, sym}
+use Prim.Native.Nat.{_+_, _-_, _*_, _≤_}
 use native.Mathlib.Nat.{mul-le-mul}
 use native.Mathlib.Omega.{arith}
 use borrow.Author.Needs.{needs}
 use Rattle.shape.specs.Shape.{mostNodes}
-use Rattle.steps.specs.Solving.{slotOf, slots}
+use Rattle.steps.specs.Solving.{slotOf}
 use Rattle.steps.proofs.Placing.{place-below}
 use Rattle.steps.proofs.Slots.{slot-lt}
 use Rattle.steps.proofs.slot.Statement.{statement}

@@ -1,9 +1,9 @@
 -- `steps::store_own` meets its contract: the two entries are below the modulus, and so fit. Assumes nothing.
-use mathlib.Core.Path.{_≡_, refl, sym, ap, _∙_}
-use Prim.Native.Nat.{ℕ, _+_, _<_}
+use mathlib.Core.Path.{refl}
+use Prim.Native.Nat.{_<_}
 use native.Mathlib.Omega.{arith}
 use borrow.Author.Needs.{needs}
-use lib.ListN.{length, getD}
+use lib.ListN.{getD}
 use Rattle.steps.specs.Classes.{node}
 use Rattle.steps.proofs.Layouts.{bounded, node-high}
 use Rattle.steps.proofs.store_own.Statement.{statement}

@@ -1,15 +1,12 @@
 -- `steps::store_pairs` meets its contract: the pairs of the sums passed stand at their places. Assumes nothing.
-use mathlib.Core.Path.{_≡_, refl, sym, ap, ap₂, _∙_}
+use mathlib.Core.Path.{_≡_, refl, sym, ap, _∙_}
 use mathlib.Core.List.{List}
-use Prim.Native.Nat.{ℕ, _+_, _-_, _*_, _/_, _%_, _^_, _≤_, _<_}
+use Prim.Native.Nat.{ℕ, _+_, _-_, _*_, _≤_}
 use native.Mathlib.Omega.{arith}
 use borrow.Author.Needs.{needs}
 use borrow.Author.Tests.{not-true, not-false}
 use lib.ListN.{length, getD, length-set}
-use Rattle.shape.specs.declared.Shape.{Shape}
 use Rattle.shape.specs.Shape.{size}
-use Rattle.code.specs.Code.{narrow}
-use Rattle.steps.specs.Classes.{messageSize, sumAt, placeAt}
 use Rattle.steps.specs.Storing.{sumSymbol}
 use Rattle.steps.proofs.Layouts.{share-high, ready-dead}
 use Rattle.steps.proofs.Passes.{numberAt, number-none, number-yes, number-no, Here, here, missed, sum-below}

@@ -1,5 +1,5 @@
 -- `steps::sum_at` meets its contract: the sum of the symbols at the two places. Assumes nothing.
-use mathlib.Core.Path.{_≡_, _∙_}
+use mathlib.Core.Path.{_∙_}
 use native.Mathlib.Omega.{arith}
 use borrow.Author.Needs.{needs}
 use Rattle.steps.specs.Steps.{addedAt}
