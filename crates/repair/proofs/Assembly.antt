@@ -1,15 +1,14 @@
 -- The whole repair assembled: from the helpers' messages, the exchanges and the second steps, the wire and the nodes that the definitions give.
-use mathlib.Core.Path.{_≡_, refl, sym, ap, ap₂, subst, _∙_}
+use mathlib.Core.Path.{_≡_, refl, sym, ap, ap₂, _∙_}
 use mathlib.Core.Logic.{_≢_}
 use mathlib.Core.Bool.{Bool, true, false, true≢false}
 use mathlib.Core.List.{List, [], _++_, append-nil}
 use Prim.Native.Nat.{ℕ, zero, suc, _+_, _*_, _-_, _/_, _%_, _≤_, _<_}
 use native.Mathlib.Nat.{mod-lt}
 use native.Mathlib.Omega.{arith}
-use lib.Arith.{digits-lt}
-use lib.ListN.{length, getD, take, drop, length-drop, take-append-drop}
+use lib.ListN.{length, getD, drop, length-drop, take-append-drop}
 use lib.Seq.{ext-getD, getD-drop}
-use Rattle.lists.specs.Lists.{tabulate, flat, piece, member, position}
+use Rattle.lists.specs.Lists.{flat, piece, member, position}
 use Rattle.lists.proofs.Tests.{cond-true, cond-false}
 use Rattle.lists.proofs.Tables.{tabulate-at, is-tabulate}
 use Rattle.lists.proofs.Members.{at-position, member-of}
@@ -19,17 +18,17 @@ use Rattle.column.specs.declared.Outcome.{Outcome}
 use Rattle.shape.specs.declared.Shape.{Shape}
 use Rattle.shape.specs.Shape.{size}
 use Rattle.code.specs.Code.{narrow}
-use Rattle.repair.specs.Classes.{node, spotAt, messageSize}
-use Rattle.repair.specs.Steps.{added, place, otherRank, exchangeAt, exchange, solved, ownPairs, contents, helperMessage}
-use Rattle.repair.specs.Whole.{fromHelper, fromHelpers, fromSender, fromDead, wire, renewed, repairedSymbol, repaired}
-use Rattle.repair.specs.Solving.{slotOf, Helped}
+use Rattle.steps.specs.Classes.{node, messageSize}
+use Rattle.steps.specs.Steps.{added, place, otherRank, exchangeAt, exchange, solved, ownPairs, contents}
+use Rattle.repair.specs.Whole.{fromHelpers, fromSender, fromDead, wire, renewed, repairedSymbol, repaired}
+use Rattle.steps.specs.Solving.{slotOf}
 use Rattle.repair.specs.Wires.{inward, inwards, toRank, Messaged, Wired, Exchanged, fromOthers, Renewed}
-use Rattle.repair.proofs.Dead.{Dead, Accepted, dead-of, node-below}
-use Rattle.repair.proofs.FirstStep.{exchange-length}
+use Rattle.steps.proofs.Dead.{Dead, Accepted, dead-of}
+use Rattle.steps.proofs.FirstStep.{exchange-length}
 use Rattle.repair.proofs.Wire.{helpers-at}
-use Rattle.repair.proofs.Passes.{messageAt, message-table}
-use Rattle.repair.proofs.Sending.{other-is}
-use Rattle.repair.proofs.OnWire.{helpers-length, to-rank-front}
+use Rattle.steps.proofs.Passes.{messageAt, message-table}
+use Rattle.steps.proofs.Sending.{other-is}
+use Rattle.repair.proofs.OnWire.{helpers-length}
 
 -- a list of n times m elements by its rows
 is-flat : (n m : ℕ) (f : ℕ → List ℕ) (l : List ℕ) → ((i : ℕ) → length (f i) ≡ m) → length l ≡ n * m → ((i x : ℕ) → i < n → x < m → getD l (i * m + x) 0 ≡ getD (f i) x 0) → l ≡ flat n f
@@ -92,8 +91,11 @@ module _ (s : Shape) (dead helpers nodes wire₀ W₁ : List ℕ) (A : Accepted 
   unfolding messageAt added
   told-below u j x l k m =
       let j-low : j < length helpers = rw (A .lists .helpers-count) k in
-      rw (helpers-at narrow s dead helpers nodes A u j x j-low m, message-table narrow D u (piece (size s) (getD helpers j 0) nodes),
-      tabulate-at M (messageAt narrow s dead u (piece (size s) (getD helpers j 0) nodes)) x 0 m)
+      rw (
+        helpers-at narrow s dead helpers nodes A u j x j-low m,
+        message-table narrow D u (piece (size s) (getD helpers j 0) nodes),
+        tabulate-at M (messageAt narrow s dead u (piece (size s) (getD helpers j 0) nodes)) x 0 m,
+      )
       (mod-lt _ (omega arith))
 
   pub wired : Wired s dead helpers W₁

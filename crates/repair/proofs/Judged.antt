@@ -16,14 +16,14 @@ use Rattle.shape.specs.declared.Refusal.{Refusal}
 use Rattle.shape.specs.declared.Answer.{Answer}
 use Rattle.shape.specs.declared.Answer.the-variants.{Done, Refused}
 use Rattle.shape.specs.Refusals.{numberOf, answerNumber, afterwards, refuse, shapeBad, repairBad, layersBad, wrongLength, symbolBad}
-use Rattle.shape.proofs.Accepted.{passed, Shaped, shape-accepted, Repairable, repair-accepted, layers-accepted, symbols-accepted}
+use Rattle.shape.proofs.Accepted.{passed, shape-accepted, repair-accepted, layers-accepted, symbols-accepted}
 use Rattle.shape.proofs.Answers.{number-positive, afterwards-refused}
 use Rattle.code.specs.Code.{narrow}
 use Rattle.code.proofs.Accepted.{narrow-accepted}
-use Rattle.repair.specs.Classes.{batch, messageSize}
+use Rattle.steps.specs.Classes.{batch, messageSize}
 use Rattle.repair.specs.Refusals.{listsRefusal, messageRefusal, firstStepRefusal, secondStepRefusal, nodeGood, wholeRefusal}
-use Rattle.repair.specs.Solving.{Helped}
-use Rattle.repair.proofs.Dead.{Accepted}
+use Rattle.steps.specs.Solving.{Helped}
+use Rattle.steps.proofs.Dead.{Accepted}
 
 pub refuse-true : (t : Bool) (number rest : ℕ) → t ≡ true → refuse t number rest ≡ number
 refuse-true t number rest e = rw e

@@ -8,22 +8,22 @@ use native.Mathlib.Omega.{arith}
 use borrow.Rule.Slice.PartMut.{putMid}
 use lib.ListN.{length, getD, take, drop, length-drop}
 use lib.Seq.{drop-drop}
-use Rattle.lists.specs.Lists.{flat, piece}
+use Rattle.lists.specs.Lists.{piece}
 use Rattle.lists.proofs.Flats.{flat-length}
 use Rattle.lists.proofs.Buffers.{part-of}
 use Rattle.shape.specs.declared.Shape.{Shape}
 use Rattle.shape.specs.Shape.{size}
 use Rattle.shape.proofs.Accepted.{shape-accepted}
 use Rattle.code.specs.Code.{narrow}
-use Rattle.repair.specs.declared.Layout.{Layout}
-use Rattle.repair.specs.Classes.{messageSize}
-use Rattle.repair.specs.Layout.{Ready}
+use Rattle.steps.specs.declared.Layout.{Layout}
+use Rattle.steps.specs.Classes.{messageSize}
+use Rattle.steps.specs.Layout.{Ready}
 use Rattle.repair.specs.Whole.{fromHelper, fromHelpers}
-use Rattle.repair.specs.Solving.{HandedOut}
+use Rattle.steps.specs.Solving.{HandedOut}
 use Rattle.repair.specs.Wires.{inward, inwards, toRank, fromOthers}
-use Rattle.repair.proofs.Dead.{Dead}
-use Rattle.repair.proofs.FirstStep.{message-length}
-use Rattle.repair.proofs.Layouts.{bounded, share-high}
+use Rattle.steps.proofs.Dead.{Dead}
+use Rattle.steps.proofs.FirstStep.{message-length}
+use Rattle.steps.proofs.Layouts.{bounded, share-high}
 use Rattle.repair.proofs.Parts.{row-within, piece-part, piece-front, tail-lent, tail-back}
 
 pub helpers-length : {s : Shape} {dead : List ℕ} → Dead s dead → (helpers nodes : List ℕ) → length helpers ≡ s .k + 1 → (u : ℕ)

@@ -1,5 +1,5 @@
 -- The loops of a whole repair over the ranks: what stands in the nodes and on the wire when the ranks below u are done.
-use mathlib.Core.Path.{_≡_, refl, sym, ap, ap₂, subst, _∙_}
+use mathlib.Core.Path.{_≡_, refl, sym, subst, _∙_}
 use mathlib.Core.Logic.{_≢_}
 use mathlib.Core.Bool.{true}
 use mathlib.Core.List.{List}
@@ -7,20 +7,20 @@ use Prim.Native.Nat.{ℕ, _+_, _*_, _-_, _≤_, _<_}
 use native.Mathlib.Decide.{ℕ-discrete}
 use native.Mathlib.Omega.{arith}
 use borrow.Rule.Slice.PartMut.{putMid}
-use lib.ListN.{length, getD, take, drop}
+use lib.ListN.{length, getD, take}
 use Rattle.lists.specs.Lists.{piece}
 use Rattle.column.specs.declared.Outcome.{Outcome}
 use Rattle.column.specs.declared.Outcome.the-variants.{Solved}
 use Rattle.shape.specs.declared.Shape.{Shape}
 use Rattle.shape.specs.Shape.{size}
 use Rattle.code.specs.Code.{narrow}
-use Rattle.repair.specs.Classes.{node, messageSize}
-use Rattle.repair.specs.Steps.{solved, ownPairs, contents}
-use Rattle.repair.specs.Storing.{Paired, Recovers}
-use Rattle.repair.specs.Solving.{slotOf}
+use Rattle.steps.specs.Classes.{node, messageSize}
+use Rattle.steps.specs.Steps.{solved, ownPairs, contents}
+use Rattle.steps.specs.Storing.{Paired, Recovers}
+use Rattle.steps.specs.Solving.{slotOf}
 use Rattle.repair.specs.Wires.{inwards, toRank, FirstOnWire, Exchanged, fromOthers, Renewed}
-use Rattle.repair.proofs.Dead.{Dead, node-below, node-own}
-use Rattle.repair.proofs.Slots.{senders-apart}
+use Rattle.steps.proofs.Dead.{Dead, node-below, node-own}
+use Rattle.steps.proofs.Slots.{senders-apart}
 use Rattle.repair.proofs.Parts.{put-piece-length, put-piece, put-other}
 use Rattle.repair.proofs.OnWire.{to-rank-front}
 

@@ -2,20 +2,20 @@
 use mathlib.Core.Path.{_≡_}
 use mathlib.Core.Bool.{true}
 use mathlib.Core.List.{List}
-use Prim.Native.Nat.{ℕ, _+_, _*_, _-_, _<_, _≤_}
+use Prim.Native.Nat.{ℕ, _+_, _*_, _-_, _<_}
 use lib.ListN.{length, getD, set, take, drop}
-use Rattle.lists.specs.Lists.{flat, rising, piece}
+use Rattle.lists.specs.Lists.{flat, piece}
 use Rattle.column.specs.declared.Outcome.{Outcome}
 use Rattle.column.specs.declared.Outcome.the-variants.{Solved}
 use Rattle.column.specs.Solving.{element}
 use Rattle.shape.specs.declared.Shape.{Shape}
 use Rattle.shape.specs.Shape.{size}
 use Rattle.code.specs.Code.{narrow}
-use Rattle.repair.specs.Classes.{node, placeAt, messageSize}
-use Rattle.repair.specs.Steps.{solved, ownPairs, contents}
+use Rattle.steps.specs.Classes.{node, placeAt, messageSize}
+use Rattle.steps.specs.Steps.{solved, ownPairs, contents}
 use Rattle.repair.specs.Whole.{fromHelpers}
-use Rattle.repair.specs.Storing.{Paired}
-use Rattle.repair.specs.Solving.{slotOf, HandedOut, Helped}
+use Rattle.steps.specs.Storing.{Paired}
+use Rattle.steps.specs.Solving.{slotOf, HandedOut, Helped}
 
 -- how many symbols the helpers' messages have: to one rank, and to all
 unfoldable pub inward : Shape → List ℕ → ℕ

@@ -1,16 +1,15 @@
 -- `repair::exchange` meets its contract: the first steps of the ranks passed are done. Assumes nothing.
-use mathlib.Core.Path.{_≡_, refl, sym, ap, ap₂, _∙_}
-use mathlib.Core.List.{List}
-use Prim.Native.Nat.{ℕ, _+_, _-_, _*_, _≤_, _<_}
+use mathlib.Core.Path.{_≡_, refl, _∙_}
+use Prim.Native.Nat.{ℕ, _+_, _-_, _*_, _≤_}
 use native.Mathlib.Nat.{mul-le-mul}
 use native.Mathlib.Omega.{arith}
 use borrow.Author.Needs.{needs}
 use lib.ListN.{length, getD, length-take, length-drop}
 use Rattle.shape.specs.Shape.{size}
 use Rattle.shape.proofs.Accepted.{shape-accepted}
-use Rattle.repair.specs.Classes.{node}
-use Rattle.repair.specs.Wires.{inwards, Wired}
-use Rattle.repair.proofs.Layouts.{ready-dead, node-high}
+use Rattle.steps.specs.Classes.{node}
+use Rattle.repair.specs.Wires.{Wired}
+use Rattle.steps.proofs.Layouts.{ready-dead, node-high}
 use Rattle.repair.proofs.Parts.{row-within}
 use Rattle.repair.proofs.OnWire.{to-rank-front}
 use Rattle.repair.proofs.Ranked.{Exchanging, exchanging-none, exchanging-more, exchanging-end}

@@ -1,8 +1,8 @@
 -- `repair::first_on_wire` meets its contract: the pairs and the sums passed stand at their places. Assumes nothing.
-use mathlib.Core.Path.{_≡_, refl, sym, ap, ap₂, _∙_}
-use mathlib.Core.Bool.{true, false}
+use mathlib.Core.Path.{_≡_, refl, sym, ap, _∙_}
+use mathlib.Core.Bool.{true}
 use mathlib.Core.List.{List}
-use Prim.Native.Nat.{ℕ, _+_, _-_, _*_, _/_, _%_, _^_, _≤_, _<_}
+use Prim.Native.Nat.{ℕ, _+_, _-_, _*_, _≤_, _<_}
 use native.Mathlib.Omega.{arith}
 use borrow.Author.Needs.{needs}
 use borrow.Author.Tests.{not-true, not-false}
@@ -11,16 +11,16 @@ use lib.Seq.{getD-drop}
 use Rattle.shape.specs.declared.Shape.{Shape}
 use Rattle.shape.specs.Shape.{size}
 use Rattle.code.specs.Code.{narrow}
-use Rattle.repair.specs.Classes.{rankClass, node, spot, placeAt, sumPlace, messageSize}
-use Rattle.repair.specs.Steps.{ownPair, ownPairs, solved}
-use Rattle.repair.specs.Storing.{sumSymbol}
-use Rattle.repair.specs.Wires.{inward, inwards, toRank}
-use Rattle.repair.proofs.Ranks.{rankClass-le}
-use Rattle.repair.proofs.FirstStep.{pairs-at}
-use Rattle.repair.proofs.Layouts.{share-high, ready-dead, node-high, bounded}
-use Rattle.repair.proofs.Passes.{numberAt, number-none, number-yes, number-no, number-all, Here, here, spot-number, missed, sum-below, place-below}
-use Rattle.repair.proofs.Storing.{Pairing, pairing-none, pairing-skip, pairing-more}
-use Rattle.repair.proofs.Sending.{helped-told, Sending, sending-none, sending-more}
+use Rattle.steps.specs.Classes.{spot, messageSize}
+use Rattle.steps.specs.Steps.{ownPair, ownPairs}
+use Rattle.steps.specs.Storing.{sumSymbol}
+use Rattle.repair.specs.Wires.{inwards, toRank}
+use Rattle.steps.proofs.Ranks.{rankClass-le}
+use Rattle.steps.proofs.FirstStep.{pairs-at}
+use Rattle.steps.proofs.Layouts.{share-high, ready-dead}
+use Rattle.steps.proofs.Passes.{numberAt, number-none, number-yes, number-no, number-all, Here, here, spot-number, missed, sum-below, place-below}
+use Rattle.steps.proofs.Storing.{Pairing, pairing-none, pairing-skip, pairing-more}
+use Rattle.steps.proofs.Sending.{helped-told, Sending, sending-none, sending-more}
 use Rattle.repair.proofs.OnWire.{to-rank-front}
 use Rattle.repair.proofs.first_on_wire.Statement.{statement}
 use Rattle.repair.proofs.first_on_wire.Tie as tie

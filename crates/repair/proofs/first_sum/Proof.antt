@@ -1,5 +1,5 @@
 -- `repair::first_sum` meets its contract: the sum's column, its own pair and its sums. Assumes nothing.
-use mathlib.Core.Path.{_≡_, refl, sym, ap, ap₂, _∙_}
+use mathlib.Core.Path.{_≡_, refl, ap, _∙_}
 use mathlib.Core.List.{List}
 use Prim.Native.Nat.{ℕ, _+_, _-_, _*_, _≤_, _<_}
 use native.Mathlib.Omega.{arith}
@@ -7,11 +7,11 @@ use borrow.Author.Needs.{needs}
 use lib.ListN.{length, getD, set, length-take, length-drop}
 use Rattle.column.specs.Solving.{element}
 use Rattle.code.specs.Code.{narrow}
-use Rattle.repair.specs.Classes.{node, placeAt}
-use Rattle.repair.specs.Steps.{solved}
-use Rattle.repair.specs.Solving.{slots}
-use Rattle.repair.specs.Wires.{inwards, toRank}
-use Rattle.repair.proofs.Layouts.{node-high}
+use Rattle.steps.specs.Classes.{node}
+use Rattle.steps.specs.Steps.{solved}
+use Rattle.steps.specs.Solving.{slots}
+use Rattle.repair.specs.Wires.{toRank}
+use Rattle.steps.proofs.Layouts.{node-high}
 use Rattle.repair.proofs.Parts.{tail-length, tail-front}
 use Rattle.repair.proofs.OnWire.{Room, wire-room, lent-rank, tail-handed}
 use Rattle.repair.proofs.first_sum.Statement.{statement}

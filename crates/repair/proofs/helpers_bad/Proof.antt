@@ -2,7 +2,7 @@
 use mathlib.Core.Path.{_≡_, refl, sym, ap, _∙_}
 use mathlib.Core.Bool.{Bool, not, true, false}
 use mathlib.Core.List.{List}
-use Prim.Native.Nat.{ℕ, _+_, _-_, _*_, _≤_, _<_}
+use Prim.Native.Nat.{ℕ, _+_, _-_, _*_, _≤_}
 use native.Mathlib.Nat.{mul-le-mul-right, suc-mul, mul-le-mul}
 use native.Mathlib.Omega.{arith}
 use borrow.Author.Needs.{needs}
@@ -42,9 +42,10 @@ within c =
     let st = c .before .before .before .before .before in
     let e = c .before .before .size .ensures in
     let h = shape-accepted _ (st .pre .0) in
-    let l = rising-below _ _ (st .pre .1) (c .before .loop .j) (c .loop-test .taken) in
-    (rw e (omega (arith, mul-le-mul-right (size (st .args .s)) l, suc-mul (getD (st .args .helpers .now) (c .before .loop .j) 0) (size (st .args .s)), st .pre .2)),
-      omega (arith, st .pre .2, mul-le-mul (h .n-high) (h .size-high)))
+    let l = rising-below _ _ (st .pre .1) (c .before .loop .j) (c .loop-test .taken) in (
+      rw e (omega (arith, mul-le-mul-right (size (st .args .s)) l, suc-mul (getD (st .args .helpers .now) (c .before .loop .j) 0) (size (st .args .s)), st .pre .2)),
+      omega (arith, st .pre .2, mul-le-mul (h .n-high) (h .size-high)),
+    )
 
 mul-at-2 : tie.Need-mul-at-2 Inv-loop μ-loop
 mul-at-2 c = omega (arith, within (c .before))

@@ -1,14 +1,14 @@
 -- `repair::judge_lists` meets its contract: causes 1, 2 and 3 in turn. Assumes nothing.
 use mathlib.Core.Path.{_≡_, sym, _∙_}
-use mathlib.Core.Bool.{true, false}
+use mathlib.Core.Bool.{false}
 use native.Mathlib.Omega.{arith}
 use borrow.Author.Needs.{needs}
-use Rattle.shape.specs.Refusals.{shapeBad, repairBad}
+use Rattle.shape.specs.Refusals.{shapeBad}
 use Rattle.lists.proofs.Tests.{neither}
 use Rattle.shape.proofs.Accepted.{shape-accepted, repair-accepted}
-use Rattle.repair.specs.Classes.{batch}
+use Rattle.steps.specs.Classes.{batch}
 use Rattle.repair.specs.Refusals.{listsRefusal}
-use Rattle.repair.proofs.Sizes.{batch-pos}
+use Rattle.steps.proofs.Sizes.{batch-pos}
 use Rattle.repair.proofs.judge_lists.Statement.{statement}
 use Rattle.repair.proofs.judge_lists.Tie as tie
 

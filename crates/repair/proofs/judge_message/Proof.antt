@@ -1,10 +1,9 @@
 -- `repair::judge_message` meets its contract: causes 1 to 3, the lengths, then the symbols. Assumes nothing.
-use mathlib.Core.Path.{_≡_, sym, ap, _∙_}
-use mathlib.Core.Bool.{true, false}
+use mathlib.Core.Path.{sym, _∙_}
 use borrow.Author.Needs.{needs}
 use Rattle.lists.specs.Lists.{outside}
 use Rattle.shape.specs.Refusals.{wrongLength}
-use Rattle.repair.specs.Classes.{messageSize}
+use Rattle.steps.specs.Classes.{messageSize}
 use Rattle.repair.specs.Refusals.{messageRefusal}
 use Rattle.repair.proofs.Judged.{judged-stop, judged-listed, judged-length, judged-symbols, judged-done}
 use Rattle.repair.proofs.judge_message.Statement.{statement}

@@ -1,14 +1,13 @@
 -- `repair::judge_second` meets its contract: causes 1 to 3, the lengths, then the symbols. Assumes nothing.
-use mathlib.Core.Path.{_≡_, sym, ap, ap₂, _∙_}
-use mathlib.Core.Bool.{true, false, not, _||_}
-use Prim.Native.Nat.{_+_, _-_, _*_, _≤_}
-use native.Mathlib.Nat.{mul-le-mul}
+use mathlib.Core.Path.{sym, ap₂, _∙_}
+use mathlib.Core.Bool.{not, _||_}
+use Prim.Native.Nat.{_-_, _≤_}
 use native.Mathlib.Omega.{arith}
 use borrow.Author.Needs.{needs}
 use lib.ListN.{length}
 use Rattle.lists.specs.Lists.{outside}
 use Rattle.shape.specs.Refusals.{wrongLength}
-use Rattle.repair.specs.Classes.{messageSize}
+use Rattle.steps.specs.Classes.{messageSize}
 use Rattle.repair.specs.Refusals.{secondStepRefusal}
 use Rattle.repair.proofs.Judged.{Listed, small, share-fits, judged-stop, judged-listed, judged-length, judged-symbols, judged-done}
 use Rattle.repair.proofs.judge_second.Statement.{statement}

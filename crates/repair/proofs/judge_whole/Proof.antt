@@ -1,14 +1,13 @@
 -- `repair::judge_whole` meets its contract: causes 1 to 3, the lengths, then the helpers' symbols. Assumes nothing.
-use mathlib.Core.Path.{_≡_, sym, ap, ap₂, _∙_}
-use mathlib.Core.Bool.{true, false, not, _||_}
+use mathlib.Core.Path.{sym, _∙_}
+use mathlib.Core.Bool.{false}
 use Prim.Native.Nat.{_+_, _-_, _*_, _≤_}
 use native.Mathlib.Nat.{mul-le-mul}
 use native.Mathlib.Omega.{arith}
 use borrow.Author.Needs.{needs}
 use lib.ListN.{length}
-use Rattle.lists.specs.Lists.{outside}
 use Rattle.shape.specs.Refusals.{wrongLength}
-use Rattle.repair.specs.Classes.{messageSize}
+use Rattle.steps.specs.Classes.{messageSize}
 use Rattle.lists.proofs.Tests.{neither}
 use Rattle.shape.specs.Shape.{mostNodes}
 use Rattle.shape.proofs.Accepted.{repair-accepted}

@@ -1,7 +1,6 @@
 -- `repair::messages_to` meets its contract: the messages of the helpers passed stand one behind the other. Assumes nothing.
-use mathlib.Core.Path.{_≡_, refl, sym, ap, ap₂, _∙_}
-use mathlib.Core.List.{List}
-use Prim.Native.Nat.{ℕ, _+_, _-_, _*_, _≤_, _<_}
+use mathlib.Core.Path.{_≡_, refl, sym, ap, _∙_}
+use Prim.Native.Nat.{_+_, _-_, _*_, _≤_, _<_}
 use native.Mathlib.Nat.{mul-le-mul}
 use native.Mathlib.Omega.{arith}
 use borrow.Author.Needs.{needs}
@@ -15,11 +14,11 @@ use Rattle.lists.proofs.Buffers.{onto, onto-none}
 use Rattle.shape.specs.Shape.{size}
 use Rattle.shape.proofs.Accepted.{shape-accepted}
 use Rattle.code.specs.Code.{narrow}
-use Rattle.repair.specs.Classes.{messageSize}
-use Rattle.repair.specs.Steps.{helperMessage}
+use Rattle.steps.specs.Classes.{messageSize}
+use Rattle.steps.specs.Steps.{helperMessage}
 use Rattle.repair.specs.Whole.{fromHelper, fromHelpers}
-use Rattle.repair.proofs.FirstStep.{message-length}
-use Rattle.repair.proofs.Layouts.{ready-dead, share-high}
+use Rattle.steps.proofs.FirstStep.{message-length}
+use Rattle.steps.proofs.Layouts.{ready-dead, share-high}
 use Rattle.repair.proofs.Parts.{row-within, piece-part, flat-put, flat-whole}
 use Rattle.repair.proofs.messages_to.Statement.{statement}
 use Rattle.repair.proofs.messages_to.Tie as tie
@@ -54,12 +53,13 @@ within c =
     let s = R .share-is in
     let l = c .before .loop in
     let j-low : l .j < length (a .helpers .now) = omega arith in
-    let i-low = rising-below _ _ (st .pre .0 .2) (l .j) j-low in
-    (rw (e, st .pre .1 .0) (row-within _ _ _ i-low),
+    let i-low = rising-below _ _ (st .pre .0 .2) (l .j) j-low in (
+      rw (e, st .pre .1 .0) (row-within _ _ _ i-low),
       omega (arith, st .pre .1 .0, mul-le-mul (h .n-high) (h .size-high)),
       rw (l .inv .2, st .pre .1 .1, s) (row-within _ _ _ j-low),
       rw (l .inv .2, st .pre .1 .1) (mul-le-mul {n₂ = 144} {m₂ = 61440} (omega (arith, h .n-high, rising-fits _ _ (st .pre .0 .2))) (share-high R)),
-      s)
+      s,
+    )
 
 mul-from-2 : tie.Need-mul-from-2 Inv-loop μ-loop
 mul-from-2 c = omega (arith, within (c .before))

@@ -1,17 +1,16 @@
 -- `repair::renew` meets its contract: the second steps of the ranks passed are done. Assumes nothing.
-use mathlib.Core.Path.{_≡_, refl, sym, ap, ap₂, _∙_}
+use mathlib.Core.Path.{_≡_, refl, ap, _∙_}
 use mathlib.Core.List.{List}
 use Prim.Native.Nat.{ℕ, _+_, _-_, _*_, _≤_, _<_}
 use native.Mathlib.Nat.{mul-le-mul}
 use native.Mathlib.Omega.{arith}
 use borrow.Author.Needs.{needs}
-use lib.ListN.{length, getD, take, drop, length-take, length-drop}
+use lib.ListN.{length, getD, length-take, length-drop}
 use Rattle.lists.specs.Lists.{piece}
 use Rattle.shape.specs.Shape.{size}
 use Rattle.shape.proofs.Accepted.{shape-accepted}
-use Rattle.repair.specs.Classes.{node, messageSize}
-use Rattle.repair.specs.Wires.{inwards, fromOthers}
-use Rattle.repair.proofs.Layouts.{ready-dead, node-high, bounded, share-high}
+use Rattle.steps.specs.Classes.{node, messageSize}
+use Rattle.steps.proofs.Layouts.{ready-dead, node-high, bounded, share-high}
 use Rattle.repair.proofs.Parts.{row-within, piece-part}
 use Rattle.repair.proofs.OnWire.{Room, wire-room, lent-others}
 use Rattle.repair.proofs.Ranked.{Renewing, renewing-none, renewing-more, renewing-end, recovers-as}
@@ -65,11 +64,12 @@ within c =
     let r = room st in
     let H = length (a .dead .now) in
     let M = messageSize (a .g .shape) (a .dead .now) in
-    let m : H * (H - 1) * M ≤ 144 * 61440 = mul-le-mul {n₂ = 144} {m₂ = 61440} (mul-le-mul {n₂ = 12} {m₂ = 12} (omega (arith, bounded R .dead-high)) (omega (arith, bounded R .dead-high))) (share-high R) in
-    (rw (c .before .before .before .size .ensures, l .inv .2 .long, st .pre .2) (row-within _ _ _ i-low),
+    let m : H * (H - 1) * M ≤ 144 * 61440 = mul-le-mul {n₂ = 144} {m₂ = 61440} (mul-le-mul {n₂ = 12} {m₂ = 12} (omega (arith, bounded R .dead-high)) (omega (arith, bounded R .dead-high))) (share-high R) in (
+      rw (c .before .before .before .size .ensures, l .inv .2 .long, st .pre .2) (row-within _ _ _ i-low),
       omega (arith, l .inv .2 .long, st .pre .2, mul-le-mul (h .n-high) (h .size-high)),
       rw (st .pre .3, R .share-is, ← (r .all)) (omega (arith, row-within H ((H - 1) * M) (l .u) u-low)),
-      omega (arith, st .pre .3, r .all, r .short, m))
+      omega (arith, st .pre .3, r .all, r .short, m),
+    )
 
 mul-at-2 : tie.Need-mul-at-2 Inv-loop μ-loop
 mul-at-2 c = omega (arith, within (c .before))

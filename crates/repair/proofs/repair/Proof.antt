@@ -1,14 +1,11 @@
 -- `repair::repair` meets its contract: turned back, or the wire and the nodes of the whole repair, assembled. Assumes nothing.
-use mathlib.Core.Path.{_≡_, refl, sym, ap, ap₂, _∙_}
-use mathlib.Core.List.{List}
-use Prim.Native.Nat.{ℕ, _+_, _-_, _*_, _≤_, _<_}
+use mathlib.Core.Path.{_≡_, sym, ap, _∙_}
+use Prim.Native.Nat.{ℕ, _-_}
 use native.Mathlib.Omega.{arith}
 use borrow.Author.Needs.{needs}
 use lib.ListN.{length}
 use Rattle.shape.specs.Refusals.{answerNumber}
-use Rattle.shape.proofs.Answers.{afterwards-done}
 use Rattle.code.specs.Code.{narrow}
-use Rattle.repair.specs.Classes.{messageSize}
 use Rattle.repair.specs.Refusals.{wholeRefusal}
 use Rattle.repair.proofs.Judged.{turned-back, turned-number, lists-ready, lists-accepted, WholePassed, whole-passed}
 use Rattle.repair.proofs.Promised.{repaired-promise}
@@ -46,9 +43,10 @@ send-requires : tie.Need-send-requires
 send-requires c κs =
     let k = known (c .before .before .before .before) in
     let A = lists-accepted _ _ _ _ (k .listed) in
-    let g = c .before .before .before .laid-out .ensures in
-    ((g .1, c .before .before .told-by .ensures, rw (g .0) (A .lists .helpers-rising), rw (g .0) (A .lists .helpers-count)),
-      (rw (g .0) (k .long), rw (g .0) (omega (arith, k .due, wire-due (c .before .before .before .before .before .before .before .before .before .before .before .before .args .s) (c .before .before .before .before .before .before .before .before .before .before .before .before .args .dead .now) (A .lists .some-dead)))))
+    let g = c .before .before .before .laid-out .ensures in (
+      (g .1, c .before .before .told-by .ensures, rw (g .0) (A .lists .helpers-rising), rw (g .0) (A .lists .helpers-count)),
+      (rw (g .0) (k .long), rw (g .0) (omega (arith, k .due, wire-due (c .before .before .before .before .before .before .before .before .before .before .before .before .args .s) (c .before .before .before .before .before .before .before .before .before .before .before .before .args .dead .now) (A .lists .some-dead)))),
+    )
 
 exchange-requires : tie.Need-exchange-requires
 exchange-requires c κs =

@@ -1,7 +1,6 @@
 -- `repair::send` meets its contract: the messages to the ranks passed stand one behind the other. Assumes nothing.
 use mathlib.Core.Path.{_≡_, refl, sym, ap, ap₂, _∙_}
-use mathlib.Core.List.{List}
-use Prim.Native.Nat.{ℕ, _+_, _-_, _*_, _≤_, _<_}
+use Prim.Native.Nat.{ℕ, _+_, _-_, _*_, _≤_}
 use native.Mathlib.Omega.{arith}
 use borrow.Author.Needs.{needs}
 use borrow.Rule.Slice.PartMut.{same-len-mid}
@@ -9,10 +8,10 @@ use lib.ListN.{length, take, length-take, length-drop}
 use Rattle.lists.specs.Lists.{flat}
 use Rattle.lists.proofs.Buffers.{onto}
 use Rattle.code.specs.Code.{narrow}
-use Rattle.repair.specs.Classes.{messageSize}
+use Rattle.steps.specs.Classes.{messageSize}
 use Rattle.repair.specs.Whole.{fromHelpers}
 use Rattle.repair.specs.Wires.{inward, inwards}
-use Rattle.repair.proofs.Layouts.{ready-dead}
+use Rattle.steps.proofs.Layouts.{ready-dead}
 use Rattle.repair.proofs.Parts.{flat-start, flat-put, flat-front}
 use Rattle.repair.proofs.OnWire.{helpers-length, Room, wire-room}
 use Rattle.repair.proofs.send.Statement.{statement}

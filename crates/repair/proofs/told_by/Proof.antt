@@ -1,8 +1,7 @@
 -- `repair::told_by` meets its contract: there are few helpers. Assumes nothing.
-use mathlib.Core.Path.{_≡_, ap₂}
-use Prim.Native.Nat.{_*_, _≤_}
+use mathlib.Core.Path.{ap₂}
+use Prim.Native.Nat.{_*_}
 use native.Mathlib.Omega.{arith}
-use lib.ListN.{length}
 use Rattle.repair.specs.Wires.{inward}
 use Rattle.repair.proofs.OnWire.{wire-room}
 use Rattle.repair.proofs.told_by.Statement.{statement}

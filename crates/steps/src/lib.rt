@@ -1,0 +1,473 @@
+// The steps of a repair, for one rank: classes and sums, a helper's message, the first and the second step of a new node.
+use code::MODULUS;
+use code::point;
+use column::ENTRIES;
+use column::Outcome;
+use column::Solution;
+use column::complete;
+use field::add;
+use field::subtract;
+use shape::Shape;
+use shape::batch;
+use shape::size;
+use shape::two_to;
+ghost use mathlib.Core.Path.{_≡_};
+ghost use mathlib.Core.Bool.{true, false, cond};
+ghost use Prim.Native.Nat.{ℕ, _+_, _-_, _*_, _%_, _^_, _≤_, _<_};
+ghost use lib.Bits.{bitXor};
+ghost use lib.Dec.{eqb};
+ghost use lib.ListN.{length, getD, set};
+ghost use Rattle.lists.specs.Digits.{bit, flip};
+ghost use Rattle.shape.specs.Shape.{mostNodes, size};
+ghost use Rattle.shape.specs.Refusals.{shapeBad};
+ghost use Rattle.steps.specs.Classes.{batch, node, classOf, rankClass, partner, placeOf, inClass, spotAt, placeAt, messageSize};
+ghost use Rattle.steps.specs.Steps.{addedAt, helperMessage, place};
+ghost use Rattle.steps.specs.Layout.{Ready};
+ghost use Rattle.steps.specs.Storing.{Paired, sentBy, Crossed, Begun, Recovers};
+ghost use Rattle.field.specs.Residues.{minus};
+ghost use Rattle.column.specs.Solving.{mostEntries, element};
+ghost use Rattle.steps.specs.Solving.{Told, MorePoints, SolvedSum, slotOf, slots, HandedOut, Helped, FirstDone};
+ghost use Rattle.code.specs.Code.{narrow};
+ghost use Rattle.lists.specs.Lists.{all, member, position, rising};
+
+// What the shape and the dead nodes fix, worked out once for each call.
+pub struct Layout {
+    pub shape: Shape,
+    // 2^n, the places of a layer.
+    pub places: usize,
+    // s of document 01, the layers of a batch.
+    pub batch: usize,
+    pub batches: usize,
+    // H of document 01, the highest class.
+    pub top: usize,
+    // N/(h+1), the symbols of a message.
+    pub share: usize,
+}
+
+// The class so far, with v + 1 mixed in where bit i of a is set.
+fn mixed(class: usize, v: usize, i: usize, a: usize) -> usize
+    requires { ⌜ (i < mostNodes) × (v < mostNodes) ⌝ }
+    ensures { λ r. ⌜ r ≡ bitXor class (cond (eqb (bit i a) 1) (v + 1) 0) ⌝ }
+{
+    if (a >> i) % 2 == 1 {
+        class ^ (v + 1)
+    } else {
+        class
+    }
+}
+
+// "The class of a is the exclusive or of all v+1, v from 0 to H−1, where bit i_(s×v) of a is set."
+fn class_of(g: Layout, dead: &[usize], a: usize) -> usize
+    requires { ⌜ Ready (now dead) g ⌝ }
+    ensures { λ r. ⌜ r ≡ classOf (now (dead .entry)) a ⌝ }
+{
+    let batch = g.batch;
+    let top = g.top;
+    let mut class = 0;
+    for v in 0..top {
+        class = mixed(class, v, dead[batch * v], a);
+    }
+    class
+}
+
+// a with bit i flipped.
+fn flipped(i: usize, a: usize) -> usize
+    requires { ⌜ (i < mostNodes) × (a < 2 ^ mostNodes) ⌝ }
+    ensures { λ r. ⌜ r ≡ flip i a ⌝ }
+{
+    let worth = two_to(i);
+    if a / worth % 2 == 0 {
+        a + worth
+    } else {
+        a - worth
+    }
+}
+
+// The table's column "its class", of rank u.
+pub fn rank_class(g: Layout, dead: &[usize], u: usize) -> usize
+    requires { ⌜ Ready (now dead) g ⌝ }
+    ensures { λ r. ⌜ r ≡ rankClass (now (dead .entry)) u ⌝ }
+{
+    let batch = g.batch;
+    let top = g.top;
+    if u / batch < top {
+        if u % batch == 0 { 0 } else { u / batch }
+    } else {
+        top
+    }
+}
+
+// The table's column "partner layer".
+fn partner(g: Layout, dead: &[usize], u: usize) -> usize
+    requires { ⌜ (Ready (now dead) g) × (u < length (now dead)) ⌝ }
+    ensures { λ r. ⌜ r ≡ partner (now (dead .entry)) u ⌝ }
+{
+    let batch = g.batch;
+    let top = g.top;
+    if u / batch < top {
+        u % batch
+    } else {
+        u % batch + 1
+    }
+}
+
+// The place of layer w of batch b, at a.
+fn place_of(g: Layout, dead: &[usize], w: usize, b: usize, a: usize) -> usize
+    requires { ⌜ (Ready (now dead) g) × (w < g .batch) × (b < g .batches) × (a < g .places) ⌝ }
+    ensures { λ r. ⌜ (r < size (g .shape)) × (r ≡ placeOf (g .shape) (now (dead .entry)) w b a) ⌝ }
+{
+    let batch = g.batch;
+    let places = g.places;
+    (batch * b + w) * places + a
+}
+
+// What a repair works with, once its causes 1 to 3 are judged: N/(h+1) is worked out here and not before.
+pub fn laid_out(s: Shape, dead: &[usize]) -> Layout
+    requires { ⌜ (shapeBad s ≡ false) × (rising 0 (s .n) (now dead) ≡ true) × (1 ≤ length (now dead)) × (length (now dead) < s .n) × (s .layers % batch (now dead) ≡ 0) ⌝ }
+    ensures { λ g. ⌜ (g .shape ≡ s) × (Ready (now (dead .entry)) g) ⌝ }
+{
+    let n = s.n;
+    let layers = s.layers;
+    let h = dead.len();
+    let batch = batch(h);
+    let places = two_to(n);
+    let share = size(s) / (h + 1);
+    Layout {
+        shape: s,
+        places,
+        batch,
+        batches: layers / batch,
+        top: (h + 1) / batch - 1,
+        share,
+    }
+}
+
+// The first (which = 0) or the other (1) place of rank u's sum at e, which counts the places of all batches' layers 0.
+pub fn place(g: Layout, dead: &[usize], u: usize, which: usize, e: usize) -> usize
+    requires { ⌜ (Ready (now dead) g) × (u < length (now dead)) × (e < g .batches * g .places) ⌝ }
+    ensures { λ r. ⌜ (r < size (g .shape)) × (r ≡ placeAt (g .shape) (now (dead .entry)) u which e) ⌝ }
+{
+    let places = g.places;
+    if which == 0 {
+        place_of(g, dead, 0, e / places, e % places)
+    } else {
+        let turned = flipped(dead[u], e % places);
+        place_of(g, dead, partner(g, dead, u), e / places, turned)
+    }
+}
+
+// Whether the a at e has class c.
+pub fn of_class(g: Layout, dead: &[usize], c: usize, e: usize) -> bool
+    requires { ⌜ Ready (now dead) g ⌝ }
+    ensures { λ r. ⌜ r ≡ inClass (now (dead .entry)) c (e % 2 ^ g .shape .n) ⌝ }
+{
+    let places = g.places;
+    class_of(g, dead, e % places) == c
+}
+
+// "the helper's symbol at (layer 0, a) plus its symbol at (partner layer, a with bit i_u flipped)"
+fn sum_at(g: Layout, dead: &[usize], u: usize, e: usize, symbols: &[u16]) -> u16
+    requires { ⌜ (Ready (now dead) g) × (u < length (now dead)) × (e < g .batches * g .places) × (length (now symbols) ≡ size (g .shape)) ⌝ }
+    ensures { λ r. ⌜ r ≡ addedAt narrow (g .shape) (now (dead .entry)) u (now (symbols .entry)) e ⌝ }
+{
+    let one = place(g, dead, u, 0, e);
+    let other = place(g, dead, u, 1, e);
+    add(MODULUS, symbols[one] as u32, symbols[other] as u32) as u16
+}
+
+// How many places all batches' layers 0 have.
+pub fn first_places(g: Layout, dead: &[usize]) -> usize
+    requires { ⌜ Ready (now dead) g ⌝ }
+    ensures { λ r. ⌜ r ≡ g .batches * g .places ⌝ }
+{
+    g.batches * g.places
+}
+
+// The message to rank u of a helper with these N symbols; x is the number of the sum at e.
+pub fn message_to(g: Layout, dead: &[usize], u: usize, symbols: &[u16], message: &mut [u16])
+    requires { ⌜ (Ready (now dead) g) × (u < length (now dead)) × (length (now symbols) ≡ size (g .shape)) × (length (now message) ≡ messageSize (g .shape) (now dead)) ⌝ }
+    ensures { λ _. ⌜ now (message .exit) ≡ helperMessage narrow (g .shape) (now (dead .entry)) u (now (symbols .entry)) ⌝ }
+{
+    let class = rank_class(g, dead, u);
+    let count = first_places(g, dead);
+    let mut x = 0;
+    for e in 0..count {
+        if !of_class(g, dead, class, e) {
+            continue;
+        }
+        message[x] = sum_at(g, dead, u, e, symbols);
+        x += 1;
+    }
+}
+
+// Stores rank u's own pairs at the places of its sums.
+pub fn store_pairs(g: Layout, dead: &[usize], u: usize, pairs: &[u16], symbols: &mut [u16])
+    requires { ⌜ (Ready (now dead) g) × (u < length (now dead)) × (length (now pairs) ≡ 2 * messageSize (g .shape) (now dead)) × (length (now symbols) ≡ size (g .shape)) ⌝ }
+    ensures { λ _. ⌜ Paired (g .shape) (now (dead .entry)) u (now (pairs .entry)) (now (symbols .exit)) ⌝ }
+{
+    let class = rank_class(g, dead, u);
+    let count = first_places(g, dead);
+    let mut x = 0;
+    for e in 0..count {
+        if !of_class(g, dead, class, e) {
+            continue;
+        }
+        let one = place(g, dead, u, 0, e);
+        let other = place(g, dead, u, 1, e);
+        symbols[one] = pairs[x * 2];
+        symbols[other] = pairs[x * 2 + 1];
+        x += 1;
+    }
+}
+
+// What is left of a sum of two symbols where one of them is taken away.
+fn difference(sum: u16, symbol: u16) -> u16
+    ensures { λ r. ⌜ r ≡ minus (narrow .modulus) sum symbol ⌝ }
+{
+    subtract(MODULUS, sum as u32, symbol as u32) as u16
+}
+
+// Stores at the places `which` of rank u's sums each sum less the symbol at its other place.
+fn cross(g: Layout, dead: &[usize], u: usize, which: usize, sums: &[u16], symbols: &mut [u16])
+    requires { ⌜ (Ready (now dead) g) × (u < length (now dead)) × (which < 2) × (length (now sums) ≡ messageSize (g .shape) (now dead)) × (length (now symbols) ≡ size (g .shape)) ⌝ }
+    ensures { λ _. ⌜ Crossed narrow (g .shape) (now (dead .entry)) u which (element (now (sums .entry))) (now (symbols .entry)) (now (symbols .exit)) ⌝ }
+{
+    let class = rank_class(g, dead, u);
+    let count = first_places(g, dead);
+    let mut x = 0;
+    for e in 0..count {
+        if !of_class(g, dead, class, e) {
+            continue;
+        }
+        let from = place(g, dead, u, 1 - which, e);
+        let to = place(g, dead, u, which, e);
+        symbols[to] = difference(sums[x], symbols[from]);
+        x += 1;
+    }
+}
+
+// Where rank v stands among the ranks but u.
+fn among(u: usize, v: usize) -> usize
+    requires { ⌜ (v ≡ u → ⊥) ⌝ }
+    ensures { λ r. ⌜ r ≡ place u v ⌝ }
+{
+    if v < u { v } else { v - 1 }
+}
+
+// The same by the message of rank u, of those that rank v received: "senders rising".
+fn cross_from(
+    g: Layout,
+    dead: &[usize],
+    v: usize,
+    u: usize,
+    which: usize,
+    received: &[u16],
+    symbols: &mut [u16],
+)
+    requires { ⌜ (Ready (now dead) g) × (v < length (now dead)) × (u < length (now dead)) × (u ≡ v → ⊥) × (which < 2) ⌝ }
+    requires { ⌜ (length (now received) ≡ (length (now dead) - 1) * messageSize (g .shape) (now dead)) × (length (now symbols) ≡ size (g .shape)) ⌝ }
+    ensures { λ _. ⌜ Crossed narrow (g .shape) (now (dead .entry)) u which (sentBy (g .shape) (now (dead .entry)) v (now (received .entry)) u) (now (symbols .entry)) (now (symbols .exit)) ⌝ }
+{
+    let share = g.share;
+    let at = among(v, u) * share;
+    let end = at + share;
+    cross(g, dead, u, which, &received[at..end], symbols);
+}
+
+// "A node whose class in the table is c, not 0, first gets class 0 of layer 0 from its own class c and the message of rank s × (c−1)."
+// Returns that rank, or h where the class is 0.
+fn begin(g: Layout, dead: &[usize], v: usize, received: &[u16], symbols: &mut [u16]) -> usize
+    requires { ⌜ (Ready (now dead) g) × (v < length (now dead)) ⌝ }
+    requires { ⌜ (length (now received) ≡ (length (now dead) - 1) * messageSize (g .shape) (now dead)) × (length (now symbols) ≡ size (g .shape)) ⌝ }
+    ensures { λ r. ⌜ Begun narrow (g .shape) (now (dead .entry)) v (now (received .entry)) (now (symbols .entry)) (now (symbols .exit)) r ⌝ }
+{
+    let batch = g.batch;
+    let class = rank_class(g, dead, v);
+    if class == 0 {
+        return dead.len();
+    }
+    let turning = batch * (class - 1);
+    cross_from(g, dead, v, turning, 0, received, symbols);
+    turning
+}
+
+// The second step of rank v in place. A rank's own class of layer 0 is there before the rank comes: it was filled by a lower one.
+pub fn recover(g: Layout, dead: &[usize], v: usize, received: &[u16], symbols: &mut [u16])
+    requires { ⌜ (Ready (now dead) g) × (v < length (now dead)) ⌝ }
+    requires { ⌜ (length (now received) ≡ (length (now dead) - 1) * messageSize (g .shape) (now dead)) × (length (now symbols) ≡ size (g .shape)) ⌝ }
+    ensures { λ _. ⌜ Recovers narrow (g .shape) (now (dead .entry)) v (now (received .entry)) (now (symbols .entry)) (now (symbols .exit)) ⌝ }
+{
+    let turning = begin(g, dead, v, received, symbols);
+    for u in 0..dead.len() {
+        if (u == v) | (u == turning) {
+            continue;
+        }
+        cross_from(g, dead, v, u, 1, received, symbols);
+    }
+}
+
+// The points of the n nodes at a, and behind them the opposite of node i's.
+fn points_with(n: usize, a: usize, i: usize) -> [u32; ENTRIES]
+    requires { ⌜ (n ≤ mostNodes) × (i < n) ⌝ }
+    ensures { λ out. ⌜ MorePoints n a i out ⌝ }
+{
+    let mut out = [0u32; ENTRIES];
+    for j in 0..n {
+        out[j] = point(a, j);
+    }
+    out[n] = MODULUS - point(a, i);
+    out
+}
+
+// What each helper sent of sum x.
+fn sent_of(count: usize, share: usize, x: usize, messages: &[u16]) -> [u32; ENTRIES]
+    requires { ⌜ (count ≤ mostEntries) × (x < share) × (length (now messages) ≡ count * share) ⌝ }
+    ensures { λ out. ⌜ (length out ≡ mostEntries) × ((j : ℕ) → j < count → element out j ≡ getD (now (messages .entry)) (j * share + x) 0) ⌝ }
+{
+    let mut out = [0u32; ENTRIES];
+    for j in 0..count {
+        out[j] = messages[j * share + x] as u32;
+    }
+    out
+}
+
+// "adding the equations at both spots leaves r unknowns": the column of rank u's sum x, at e.
+pub fn solve_sum(
+    g: Layout,
+    dead: &[usize],
+    helpers: &[usize],
+    u: usize,
+    messages: &[u16],
+    x: usize,
+    e: usize,
+) -> Solution
+    requires { ⌜ (Ready (now dead) g) × (Told (g .shape) (now dead) (now helpers) u (now messages) x) × (spotAt (g .shape) (now dead) u x .a ≡ e % 2 ^ g .shape .n) ⌝ }
+    ensures { λ r. ⌜ SolvedSum (g .shape) (now (dead .entry)) (now (helpers .entry)) u (now (messages .entry)) x r ⌝ }
+{
+    let places = g.places;
+    let share = g.share;
+    let s = g.shape;
+    let n = s.n;
+    let count = helpers.len();
+    let m = n + 1;
+    let points = points_with(n, e % places, dead[u]);
+    let values = sent_of(count, share, x, messages);
+    let mut column = [0u32; ENTRIES];
+    let outcome = complete(
+        MODULUS,
+        &points[..m],
+        helpers,
+        &values[..count],
+        &mut column[..m],
+    );
+    Solution {
+        outcome,
+        values: column,
+    }
+}
+
+// Where the message to rank v begins among those that rank u hands out, counted in messages: of all exchanges, or of its own.
+fn slot(all: bool, h: usize, u: usize, v: usize) -> usize
+    requires { ⌜ (u < h) × (v < h) × (v ≡ u → ⊥) × (h ≤ mostNodes) ⌝ }
+    ensures { λ r. ⌜ (r < slots all h) × (r ≡ slotOf all h u v) ⌝ }
+{
+    if all {
+        v * (h - 1) + among(v, u)
+    } else {
+        among(u, v)
+    }
+}
+
+// Symbol x of the message to every other new node.
+pub fn hand_out(
+    g: Layout,
+    dead: &[usize],
+    u: usize,
+    all: bool,
+    x: usize,
+    entries: [u32; ENTRIES],
+    out: &mut [u16],
+)
+    requires { ⌜ (Ready (now dead) g) × (u < length (now dead)) × (x < messageSize (g .shape) (now dead)) × (length entries ≡ mostEntries) ⌝ }
+    requires { ⌜ ((i : ℕ) → i < g .shape .n + 1 → element entries i < narrow .modulus) × (length (now out) ≡ slots all (length (now dead)) * messageSize (g .shape) (now dead)) ⌝ }
+    ensures { λ _. ⌜ HandedOut (g .shape) (now (dead .entry)) u all x entries (now (out .entry)) (now (out .exit)) ⌝ }
+{
+    let share = g.share;
+    let h = dead.len();
+    for v in 0..h {
+        if v == u {
+            continue;
+        }
+        let at = slot(all, h, u, v) * share + x;
+        out[at] = entries[dead[v]] as u16;
+    }
+}
+
+// Stores a sum's own pair: entry i_u, and the one behind the n nodes'.
+pub fn store_own(
+    g: Layout,
+    dead: &[usize],
+    u: usize,
+    entries: [u32; ENTRIES],
+    one: usize,
+    other: usize,
+    out: &mut [u16],
+)
+    requires { ⌜ (Ready (now dead) g) × (u < length (now dead)) × (length entries ≡ mostEntries) × ((i : ℕ) → i < g .shape .n + 1 → element entries i < narrow .modulus) ⌝ }
+    requires { ⌜ (one < length (now out)) × (other < length (now out)) ⌝ }
+    ensures { λ _. ⌜ now (out .exit) ≡ set (set (now (out .entry)) one (element entries (node (now (dead .entry)) u))) other (element entries (g .shape .n)) ⌝ }
+{
+    let s = g.shape;
+    let n = s.n;
+    out[one] = entries[dead[u]] as u16;
+    out[other] = entries[n] as u16;
+}
+
+// The first step of rank u, from the helpers' messages.
+pub fn first_into(
+    g: Layout,
+    dead: &[usize],
+    helpers: &[usize],
+    u: usize,
+    messages: &[u16],
+    pairs: &mut [u16],
+    sums: &mut [u16],
+) -> Outcome
+    requires { ⌜ (Ready (now dead) g) × (Helped (g .shape) (now dead) (now helpers) u (now messages)) ⌝ }
+    requires { ⌜ (length (now pairs) ≡ 2 * messageSize (g .shape) (now dead)) × (length (now sums) ≡ (length (now dead) - 1) * messageSize (g .shape) (now dead)) ⌝ }
+    ensures { λ r. ⌜ FirstDone (g .shape) (now (dead .entry)) (now (helpers .entry)) u (now (messages .entry)) (now (pairs .exit)) (now (sums .exit)) r ⌝ }
+{
+    let class = rank_class(g, dead, u);
+    let count = first_places(g, dead);
+    let mut x = 0;
+    for e in 0..count {
+        if !of_class(g, dead, class, e) {
+            continue;
+        }
+        let r = solve_sum(g, dead, helpers, u, messages, x, e);
+        let outcome = r.outcome;
+        let Outcome::Solved = outcome else {
+            return Outcome::ZeroDivisor;
+        };
+        let entries = r.values;
+        store_own(g, dead, u, entries, x * 2, x * 2 + 1, pairs);
+        hand_out(g, dead, u, false, x, entries, sums);
+        x += 1;
+    }
+    Outcome::Solved
+}
+
+// The rank of a dead node: its position in the list.
+pub fn rank_of(g: Layout, dead: &[usize], new: usize) -> usize
+    requires { ⌜ (Ready (now dead) g) × (member new (now dead) ≡ true) ⌝ }
+    ensures { λ r. ⌜ (r < length (now (dead .entry))) × (r ≡ position new (now (dead .entry))) ⌝ }
+{
+    let mut u = 0;
+    while u < dead.len() {
+        if new == dead[u] {
+            return u;
+        }
+        u += 1;
+    }
+    0
+}
