@@ -77,10 +77,12 @@ fn print_written(bytes: &[u8], opened: &mut [u8]) {
     print_bytes(opened);
 }
 
-// A dead node: no symbol of it is to be read.
-fn lose(node: &mut [u16]) {
-    for i in 0..node.len() {
-        node[i] = 65535;
+// Node 0 is dead: no symbol of it is to be read.
+fn lose(size: usize, nodes: &mut [u16]) {
+    for i in 0..nodes.len() {
+        if i < size {
+            nodes[i] = 65535;
+        }
     }
 }
 
@@ -88,7 +90,7 @@ fn lose(node: &mut [u16]) {
 fn print_repaired() {
     let mut nodes = [0u16; 24];
     code::write(tiny(), &[3u8, 6], &mut nodes);
-    lose(&mut nodes[..8]);
+    lose(8, &mut nodes);
     let mut wire = [0u16; 8];
     let dead = [0];
     let helpers = [1, 2];

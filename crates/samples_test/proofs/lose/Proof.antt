@@ -1,7 +1,8 @@
 -- `samples_test::lose` meets its contract. Assumes nothing.
-use mathlib.Core.Path.{_≡_}
+use mathlib.Core.Path.{_≡_, refl, ap, _∙_}
+use mathlib.Core.Logic.{⊎-elim}
 use Prim.Native.Nat.{_-_, _≤_}
-use lib.ListN.{length}
+use lib.ListN.{length, length-set}
 use borrow.Author.Needs.{needs}
 use Rattle.samples_test.proofs.lose.Statement.{statement}
 use Rattle.samples_test.proofs.lose.Tie as tie
@@ -9,19 +10,19 @@ use Rattle.samples_test.proofs.lose.Reads as reads
 use Rattle.samples_test.proofs.lose.Lts as lts
 
 abbrev Inv-loop : tie.InvT-loop
-Inv-loop node₀ i₀ i-end node i = (i ≤ length node₀) × (i-end ≡ length node₀) × (length node ≡ length node₀)
+Inv-loop size nodes₀ i₀ i-end nodes i = (i ≤ length nodes₀) × (i-end ≡ length nodes₀) × (length nodes ≡ length nodes₀)
 
 abbrev μ-loop : tie.MeasureT-loop
-μ-loop node₀ i₀ i-end node i = length node₀ - i
+μ-loop size nodes₀ i₀ i-end nodes i = length nodes₀ - i
 
 loop-holds : tie.Need-loop-holds Inv-loop μ-loop
 loop-holds c = search needs
 
-mul-node : tie.Need-mul-node Inv-loop μ-loop
-mul-node c = search needs
+mul-nodes : tie.Need-mul-nodes Inv-loop μ-loop
+mul-nodes c = search needs
 
-slice-write-node : tie.Need-slice-write-node Inv-loop μ-loop
-slice-write-node c = search needs
+slice-write-nodes : tie.Need-slice-write-nodes Inv-loop μ-loop
+slice-write-nodes c = search needs
 
 add-i : tie.Need-add-i Inv-loop μ-loop
 add-i c = search needs
@@ -30,7 +31,8 @@ loop-less : tie.Need-loop-less Inv-loop μ-loop
 loop-less c = search needs
 
 loop-again : tie.Need-loop-again Inv-loop μ-loop
-loop-again c = search needs
+loop-again c =
+    ⊎-elim (λ w. (search needs, refl, ap length (w .1) ∙ simp length-set (c .before .before .loop .inv .2))) (λ w. (search needs, refl, ap length (w .1) ∙ c .before .before .loop .inv .2)) (c .if1 .came)
 
 same-length : tie.Need-same-length Inv-loop μ-loop
 same-length c = search needs
@@ -45,8 +47,8 @@ lose-spec =
     Inv-loop
     μ-loop
     loop-holds
-    mul-node
-    slice-write-node
+    mul-nodes
+    slice-write-nodes
     add-i
     loop-less
     loop-again
