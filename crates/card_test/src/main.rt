@@ -6,8 +6,8 @@ use card::Number;
 use card::Packed;
 use card::Unpacked;
 use libc::STDOUT_FILENO;
-use shape::Refusal;
 use shape::Shape;
+use shape::number_of;
 
 // "Its card for node 1: 3 1 1 1 2 253 1 247 1 0 0 0 0 0 0."
 const SAMPLE: [u8; 15] = [3, 1, 1, 1, 2, 253, 1, 247, 1, 0, 0, 0, 0, 0, 0];
@@ -83,19 +83,6 @@ fn mixed_bytes(start: Tally, bytes: &[u8]) -> Tally {
         i += 1;
     }
     t
-}
-
-fn number_of(cause: Refusal) -> usize {
-    match cause {
-        Refusal::BadShape => 1,
-        Refusal::BadNodes => 2,
-        Refusal::PartBatch => 3,
-        Refusal::WrongLength => 4,
-        Refusal::BadSymbol => 5,
-        Refusal::Malformed => 6,
-        Refusal::NoTranscript => 7,
-        Refusal::ZeroDivisor => 8,
-    }
 }
 
 fn mixed_answer(t: Tally, answer: Unpacked) -> Tally {

@@ -5,33 +5,19 @@ use card::Packed;
 use card::Unpacked;
 use libc::STDOUT_FILENO;
 use shape::Answer;
-use shape::Refusal;
 use shape::Shape;
-
-// The number of a cause.
-fn number_of(cause: Refusal) -> u64 {
-    match cause {
-        Refusal::BadShape => 1,
-        Refusal::BadNodes => 2,
-        Refusal::PartBatch => 3,
-        Refusal::WrongLength => 4,
-        Refusal::BadSymbol => 5,
-        Refusal::Malformed => 6,
-        Refusal::NoTranscript => 7,
-        Refusal::ZeroDivisor => 8,
-    }
-}
+use shape::number_of;
 
 // 0, or the number of the cause.
-fn answer_number(answer: Answer) -> u64 {
+fn answer_number(answer: Answer) -> usize {
     match answer {
         Answer::Done => 0,
         Answer::Refused(cause) => number_of(cause),
     }
 }
 
-fn print_number(number: u64) {
-    io::print_decimal(STDOUT_FILENO, number);
+fn print_number(number: usize) {
+    io::print_decimal(STDOUT_FILENO, number as u64);
     io::write_all(STDOUT_FILENO, b" ");
 }
 
@@ -42,7 +28,7 @@ fn end_line() {
 fn print_symbols(symbols: &[u16]) {
     let mut i = 0;
     while i < symbols.len() {
-        print_number(symbols[i] as u64);
+        print_number(symbols[i] as usize);
         i += 1;
     }
     end_line();
@@ -51,7 +37,7 @@ fn print_symbols(symbols: &[u16]) {
 fn print_bytes(bytes: &[u8]) {
     let mut i = 0;
     while i < bytes.len() {
-        print_number(bytes[i] as u64);
+        print_number(bytes[i] as usize);
         i += 1;
     }
     end_line();
@@ -111,7 +97,7 @@ fn print_card() {
     };
     let mut card = [0u8; 31];
     match card::pack(header, &nodes[8..16], &mut card) {
-        Packed::Card(long) => print_number(long as u64),
+        Packed::Card(long) => print_number(long),
         Packed::Refused(cause) => print_number(number_of(cause)),
     }
     print_bytes(&card);
@@ -122,7 +108,7 @@ fn print_unpacked(b: u8, c: u8) {
     let bytes = [3, 1, 1, 1, 2, b, c, 0, 0, 0, 0, 0, 0, 0];
     let mut symbols = [9u16; 8];
     match card::unpack(&bytes, &mut symbols) {
-        Unpacked::Header(header) => print_number(header.length as u64),
+        Unpacked::Header(header) => print_number(header.length),
         Unpacked::Refused(cause) => print_number(number_of(cause)),
     }
     print_symbols(&symbols);

@@ -117,7 +117,7 @@ module _ {s : Shape} {dead : List ℕ} (D : Dead s dead) where
     pub layer : partner dead u ≡ w
     pub inside : classOf dead (flip (node dead u) a) ≡ rankClass dead u
 
-  target : (u w a : ℕ) → w < batch dead → provider dead w a ≡ u → (Origin dead w a → ⊥) → Target u w a
+  pub target : (u w a : ℕ) → w < batch dead → provider dead w a ≡ u → (Origin dead w a → ⊥) → Target u w a
   target u w a h e o = go (ℕ-discrete w 0)
     where
       go : Dec (w ≡ 0) → Target u w a
@@ -143,7 +143,7 @@ module _ {s : Shape} {dead : List ℕ} (D : Dead s dead) where
           record { layer = pu; inside = partner-keeps D u a l (λ y. z (sym pu ∙ y)) ∙ sym (r .class) ∙ ap (rankClass dead) q }
 
   -- and a sum ends at a place of which its rank is the provider
-  source : (u a : ℕ) → u < length dead → classOf dead a ≡ rankClass dead u
+  pub source : (u a : ℕ) → u < length dead → classOf dead a ≡ rankClass dead u
       → (provider dead (partner dead u) (flip (node dead u) a) ≡ u) × (Origin dead (partner dead u) (flip (node dead u) a) → ⊥)
   source u a l k = go (ℕ-discrete (partner dead u) 0)
     where
