@@ -22,6 +22,64 @@ const HELPING: usize = 2;
 // The numbers of shapes looked at: n up to 8, k and h below 8.
 const SHAPES: usize = 512;
 
+// Larger shapes: n, k, h and the roles of the nodes, four numbers to a case.
+const CASES: usize = 13;
+
+const LARGE: [usize; 52] = [
+    9,
+    5,
+    2,
+    18464,
+    9,
+    4,
+    4,
+    12356,
+    9,
+    3,
+    5,
+    9953,
+    9,
+    2,
+    6,
+    9950,
+    10,
+    7,
+    2,
+    58076,
+    10,
+    5,
+    4,
+    39094,
+    10,
+    4,
+    5,
+    51665,
+    11,
+    9,
+    1,
+    177119,
+    11,
+    4,
+    3,
+    158405,
+    12,
+    10,
+    1,
+    531359,
+    12,
+    6,
+    3,
+    480815,
+    12,
+    8,
+    3,
+    524147,
+    12,
+    4,
+    7,
+    287603,
+];
+
 // Repairs that were exact, and the digest of their wires.
 struct Tally {
     exact: u64,
@@ -456,9 +514,186 @@ fn every(word: &mut [u16], nodes: &mut [u16], wire: &mut [u16]) {
     }
 }
 
+fn large_number(i: usize) -> usize
+    ensures { λ r. ⌜ r ≤ 1000000 ⌝ }
+{
+    if i < 52 { LARGE[i] % 1000000 } else { 0 }
+}
+
+fn large(c: usize, word: &mut [u16], nodes: &mut [u16], wire: &mut [u16]) {
+    if CASES <= c {
+        return;
+    }
+    let first = large_number(4 * c + 3);
+    case(
+        large_number(4 * c),
+        large_number(4 * c + 1),
+        large_number(4 * c + 2),
+        first,
+        first + 1,
+        word,
+        nodes,
+        wire,
+    );
+}
+
+fn larger(word: &mut [u16], nodes: &mut [u16], wire: &mut [u16]) {
+    let mut c = 0;
+    while c < CASES {
+        large(c, word, nodes, wire);
+        c += 1;
+    }
+}
+
+fn told(answer: Answer, buffer: &[u16]) {
+    print(number(answer));
+    print(mixed_symbols(0, buffer));
+}
+
+fn tell_message(
+    s: Shape,
+    dead: &[usize],
+    helpers: &[usize],
+    helper: usize,
+    new: usize,
+    symbols: &[u16],
+    message: &mut [u16],
+) {
+    let answer = repair::helper_message(s, dead, helpers, helper, new, symbols, message);
+    told(answer, message);
+}
+
+fn tell_first(
+    s: Shape,
+    dead: &[usize],
+    helpers: &[usize],
+    new: usize,
+    messages: &[u16],
+    pairs: &mut [u16],
+    sums: &mut [u16],
+) {
+    let answer = repair::first_step(s, dead, helpers, new, messages, pairs, sums);
+    told(answer, pairs);
+}
+
+fn tell_second(
+    s: Shape,
+    dead: &[usize],
+    helpers: &[usize],
+    new: usize,
+    pairs: &[u16],
+    received: &[u16],
+    symbols: &mut [u16],
+) {
+    let answer = repair::second_step(s, dead, helpers, new, pairs, received, symbols);
+    told(answer, symbols);
+}
+
+fn tell_repair(s: Shape, dead: &[usize], helpers: &[usize], nodes: &mut [u16], wire: &mut [u16]) {
+    told(repair::repair(s, dead, helpers, nodes, wire), wire);
+    print(mixed_symbols(0, nodes));
+}
+
+// x in front of seven zeros.
+fn front(x: u16) -> [u16; 8]
+    ensures { λ r. ⌜ length r ≡ 8 ⌝ }
+{
+    let mut symbols = [0u16; 8];
+    symbols[0] = x;
+    symbols
+}
+
+// The helper's message and both steps, of symbols with x in front, in buffers of sevens that are right where room is 4.
+fn refused_parts(
+    s: Shape,
+    dead: &[usize],
+    helpers: &[usize],
+    helper: usize,
+    new: usize,
+    x: u16,
+    room: usize,
+) {
+    let symbols = front(x);
+    let none = [0u16; 0];
+    let mut message = [7u16; 8];
+    let mut pairs = [7u16; 8];
+    let mut sums = [7u16; 0];
+    let mut back = [7u16; 8];
+    if 4 < room {
+        return;
+    }
+    tell_message(
+        s,
+        dead,
+        helpers,
+        helper,
+        new,
+        &symbols,
+        &mut message[..room],
+    );
+    tell_first(
+        s,
+        dead,
+        helpers,
+        new,
+        &symbols,
+        &mut pairs[..2 * room],
+        &mut sums,
+    );
+    tell_second(
+        s,
+        dead,
+        helpers,
+        new,
+        &symbols,
+        &none,
+        &mut back[..2 * room],
+    );
+}
+
+// A whole repair where node 1 has x in front, and then the calls that it is made of.
+fn refused(
+    s: Shape,
+    dead: &[usize],
+    helpers: &[usize],
+    helper: usize,
+    new: usize,
+    x: u16,
+    room: usize,
+) {
+    refused_parts(s, dead, helpers, helper, new, x, room);
+    let mut nodes = [0u16; 24];
+    nodes[0] = 65535;
+    nodes[8] = x;
+    let mut wire = [7u16; 8];
+    if room <= 4 {
+        tell_repair(s, dead, helpers, &mut nodes, &mut wire[..2 * room]);
+    }
+    end_line();
+}
+
+// Accepted, and each cause 1 to 5; a line for each.
+fn causes() {
+    let s = shape_of(3, 1, 1);
+    let one = [0usize];
+    let two = [0usize, 1];
+    let helpers = [1usize, 2];
+    let last = [2usize, 3];
+    refused(s, &one, &helpers, 1, 0, 256, 4);
+    refused(shape_of(2, 1, 1), &one, &two, 0, 1, 257, 3);
+    refused(s, &one, &two, 1, 0, 257, 3);
+    refused(s, &one, &helpers, 1, 1, 256, 4);
+    refused(s, &one, &helpers, 0, 0, 256, 4);
+    refused(shape_of(4, 1, 1), &two, &last, 2, 0, 257, 3);
+    refused(s, &one, &helpers, 1, 0, 257, 3);
+    refused(s, &one, &helpers, 1, 0, 257, 4);
+}
+
 fn main() {
     let mut word = [0u16; MOST];
     let mut nodes = [0u16; MOST];
     let mut wire = [0u16; MOST];
     every(&mut word, &mut nodes, &mut wire);
+    larger(&mut word, &mut nodes, &mut wire);
+    causes();
 }
