@@ -1,0 +1,315 @@
+#!/usr/bin/env python3
+"""What crates/repair_test must print, from document 01's "Repair" alone; it shares no code with the archive.
+
+    python3 tests/repair_expected.py > crates/repair_test/stdout
+
+Nodes are lists here, and solving is Gauss-Jordan elimination with pivoting of whole matrices, kept for each
+set of points.
+"""
+from functools import lru_cache
+from itertools import combinations
+
+Q = 257
+P = [pow(3, i, Q) for i in range(12)]
+
+
+def point(i, a):
+    return Q - P[i] if (a >> i) & 1 else P[i]
+
+
+@lru_cache(maxsize=None)
+def inverse(points):
+    """The inverse of the matrix with row t the powers t of the points."""
+    r = len(points)
+    rows = [[pow(p, t, Q) for p in points] + [int(t == j) for j in range(r)] for t in range(r)]
+    for col in range(r):
+        pivot = next(row for row in range(col, r) if rows[row][col])
+        rows[col], rows[pivot] = rows[pivot], rows[col]
+        scale = pow(rows[col][col], -1, Q)
+        rows[col] = [x * scale % Q for x in rows[col]]
+        for row in range(r):
+            f = rows[row][col]
+            if row != col and f:
+                rows[row] = [(x - f * y) % Q for x, y in zip(rows[row], rows[col])]
+    return [row[r:] for row in rows]
+
+
+@lru_cache(maxsize=None)
+def factors(unknown, known):
+    """For unknown and known points: what each unknown symbol takes of each known one."""
+    inv = inverse(unknown)
+    r = len(unknown)
+    powers = [[pow(p, t, Q) for t in range(r)] for p in known]
+    return [[-sum(row[t] * w[t] for t in range(r)) % Q for w in powers] for row in inv]
+
+
+def completed(n, k, layers, held):
+    """All nodes of the codeword that has these symbols on nodes 0 to k-1."""
+    size = layers << n
+    nodes = [list(node) for node in held] + [[0] * size for _ in range(n - k)]
+    for place in range(size):
+        a = place % (1 << n)
+        points = tuple(point(i, a) for i in range(n))
+        for i, row in zip(range(k, n), factors(points[k:], points[:k])):
+            nodes[i][place] = sum(f * nodes[j][place] for j, f in enumerate(row)) % Q
+    return nodes
+
+
+# ---- repair
+
+class Plan:
+    """What a list of dead nodes fixes: batches, classes and spots."""
+
+    def __init__(self, n, k, layers, dead):
+        self.n, self.k, self.dead = n, k, dead
+        self.h = h = len(dead)
+        self.s = h + 1
+        while self.s % 2 == 0:
+            self.s //= 2
+        self.H = (h + 1) // self.s - 1
+        self.batches = layers // self.s
+        self.size = layers << n
+        self.by_class = [[] for _ in range(self.H + 1)]
+        for a in range(1 << n):
+            c = 0
+            for v in range(self.H):
+                if (a >> dead[self.s * v]) & 1:
+                    c ^= v + 1
+            self.by_class[c].append(a)
+        self.spots = [self.spots_of(u) for u in range(h)]
+
+    def row(self, u):
+        """The class and the partner layer of rank u."""
+        u1, u2 = divmod(u, self.s)
+        if u1 == self.H:
+            return self.H, u2 + 1
+        return (0, 0) if u2 == 0 else (u1, u2)
+
+    def spots_of(self, u):
+        """The sums of rank u: (a, first place, other place)."""
+        c, partner = self.row(u)
+        out = []
+        for b in range(self.batches):
+            for a in self.by_class[c]:
+                other = a ^ (1 << self.dead[u])
+                base = b * self.s
+                out.append((a, (base << self.n) + a, ((base + partner) << self.n) + other))
+        return out
+
+
+def message(plan, u, symbols):
+    return [(symbols[x] + symbols[y]) % Q for _, x, y in plan.spots[u]]
+
+
+def first_step(plan, helpers, u, messages):
+    """The own pairs of rank u, and its sums for each other dead node."""
+    me = plan.dead[u]
+    rest = [i for i in range(plan.n) if i not in helpers and i != me]
+    pairs, sums = [], {i: [] for i in rest}
+    for e, (a, _, _) in enumerate(plan.spots[u]):
+        own = P[me]
+        mine = (own, Q - own) if not (a >> me) & 1 else (Q - own, own)
+        unknown = mine + tuple(point(i, a) for i in rest)
+        known = tuple(point(i, a) for i in helpers)
+        told = [m[e] for m in messages]
+        values = [sum(f * x for f, x in zip(row, told)) % Q for row in factors(unknown, known)]
+        pairs += values[:2]
+        for i, x in zip(rest, values[2:]):
+            sums[i].append(x)
+    return pairs, {i: sums[i] for i in rest if i in plan.dead}
+
+
+def second_step(plan, v, pairs, received):
+    """All symbols of rank v, from its pairs and the messages of the other ranks."""
+    out = [None] * plan.size
+    for e, (_, x, y) in enumerate(plan.spots[v]):
+        out[x], out[y] = pairs[2 * e], pairs[2 * e + 1]
+    waiting = [u for u in range(plan.h) if u != v]
+    # A sum whose first or second symbol is known gives the other one; what is left waits for another round.
+    left = [(u, e) for u in waiting for e in range(len(plan.spots[u]))]
+    c = plan.row(v)[0]
+    if c:
+        left.sort(key=lambda ue: ue[0] != plan.s * (c - 1))
+    while left:
+        again = []
+        for u, e in left:
+            _, x, y = plan.spots[u][e]
+            total = received[u][e]
+            if out[x] is None and out[y] is None:
+                again.append((u, e))
+            elif out[y] is None:
+                out[y] = (total - out[x]) % Q
+            elif out[x] is None:
+                out[x] = (total - out[y]) % Q
+            else:
+                raise AssertionError("a symbol is given twice")
+        if len(again) == len(left):
+            raise AssertionError("no symbol is found")
+        left = again
+    assert all(x is not None for x in out)
+    return out
+
+
+def repair(plan, helpers, nodes):
+    """The wire and the dead nodes."""
+    told = [[message(plan, u, nodes[i]) for i in helpers] for u in range(plan.h)]
+    steps = [first_step(plan, helpers, u, told[u]) for u in range(plan.h)]
+    wire = [x for by in told for m in by for x in m]
+    back = []
+    for v, node in enumerate(plan.dead):
+        received = {u: steps[u][1][node] for u in range(plan.h) if u != v}
+        for u in sorted(received):
+            wire += received[u]
+        back.append(second_step(plan, v, steps[v][0], received))
+    return wire, back
+
+
+# ---- the lines
+
+def mixed(h, x):
+    return (h * 31 + x + 1) % 1000003
+
+
+def mixed_symbols(h, xs):
+    for x in xs:
+        h = (h * 31 + x + 1) % 1000003
+    return h
+
+
+def random_symbols(seed, count):
+    out = []
+    for _ in range(count):
+        seed = (seed % 65521 * 17364 + 11) % 65521
+        out.append(256 if seed % 7 == 0 else seed % 257)
+    return out
+
+
+def odd_part(x):
+    while x % 2 == 0:
+        x //= 2
+    return x
+
+
+def sets_of(n, k, h):
+    """Every dead set and helper set, in the order of the numbers whose digits to the base 3 are the roles."""
+    out = []
+    for dead in combinations(range(n), h):
+        others = [i for i in range(n) if i not in dead]
+        for helpers in combinations(others, k + 1):
+            number = sum(3 ** i for i in dead) + 2 * sum(3 ** i for i in helpers)
+            out.append((number, dead, helpers))
+    return sorted(out)
+
+
+def line(n, k, h, cases):
+    layers = odd_part(h + 1)
+    size = layers << n
+    flat = random_symbols(n * 100 + k * 10 + h, k * size)
+    word = completed(n, k, layers, [flat[i * size:(i + 1) * size] for i in range(k)])
+    plans = {}
+    count = digest = 0
+    for _, dead, helpers in cases:
+        if dead not in plans:
+            plans[dead] = Plan(n, k, layers, dead)
+        wire, back = repair(plans[dead], helpers, word)
+        digest = mixed_symbols(mixed(digest, 0), wire)
+        assert len(wire) == h * (k + h) * size // (h + 1)
+        count += all(back[u] == word[i] for u, i in enumerate(dead))
+    print(n, k, h, 0, count, digest, "")
+
+
+LARGE = [
+    (9, 5, 2, 18464), (9, 4, 4, 12356), (9, 3, 5, 9953), (9, 2, 6, 9950), (10, 7, 2, 58076), (10, 5, 4, 39094),
+    (10, 4, 5, 51665), (11, 9, 1, 177119), (11, 4, 3, 158405), (12, 10, 1, 531359), (12, 6, 3, 480815),
+    (12, 8, 3, 524147), (12, 4, 7, 287603),
+]
+
+
+def large(n, k, h, number):
+    digits = [number // 3 ** i % 3 for i in range(n)]
+    dead = tuple(i for i in range(n) if digits[i] == 1)
+    helpers = tuple(i for i in range(n) if digits[i] == 2)
+    assert len(dead) == h and len(helpers) == k + 1
+    line(n, k, h, [(number, dead, helpers)])
+
+
+# ---- turning back
+
+def rising(n, nodes):
+    return all(0 <= i < n for i in nodes) and all(x < y for x, y in zip(nodes, nodes[1:]))
+
+
+def common_cause(n, k, layers, dead, helpers, named):
+    if not (3 <= n <= 12 and 1 <= k <= n - 2 and 1 <= layers <= 15):
+        return 1
+    h = len(dead)
+    lists = rising(n, dead) and rising(n, helpers) and 1 <= h <= n - k - 1 and len(helpers) == k + 1
+    if not (lists and named) or set(dead) & set(helpers):
+        return 2
+    return 3 if layers % odd_part(h + 1) else 0
+
+
+def cause(common, lengths, symbols):
+    return common or (4 if any(x != y for x, y in lengths) else 5 if any(x > 256 for x in symbols) else 0)
+
+
+def refused(shape, dead, helpers, helper, new, x, room):
+    """The four calls of symbols with x in front; the buffers hold sevens, or what the call gives."""
+    n, k, layers = shape
+    h, size = len(dead), layers << n
+    share = size // (h + 1)
+    given = [x] + [0] * 7
+    words = []
+
+    def told(number, buffer):
+        words.extend([number, mixed_symbols(0, buffer)])
+
+    common = common_cause(n, k, layers, dead, helpers, helper in helpers and new in dead)
+    number = cause(common, [(8, size), (room, share)], given)
+    told(number, [7] * room if number else message(Plan(n, k, layers, dead), dead.index(new), given))
+    common = common_cause(n, k, layers, dead, helpers, new in dead)
+    number = cause(common, [(8, (k + 1) * share), (2 * room, 2 * share), (0, (h - 1) * share)], given)
+    pairs = [7] * (2 * room)
+    if not number:
+        messages = [given[j * share:(j + 1) * share] for j in range(k + 1)]
+        pairs = first_step(Plan(n, k, layers, dead), helpers, dead.index(new), messages)[0]
+    told(number, pairs)
+    number = cause(common, [(8, 2 * share), (0, (h - 1) * share), (2 * room, size)], given)
+    told(number, [7] * (2 * room) if number else second_step(Plan(n, k, layers, dead), dead.index(new), given, {}))
+    nodes = [[65535] + [0] * 7, given, [0] * 8]
+    common = common_cause(n, k, layers, dead, helpers, True)
+    looked = [y for i in helpers if i < 3 for y in nodes[i]]
+    number = cause(common, [(24, n * size), (2 * room, h * (k + h) * share)], looked)
+    wire = [7] * (2 * room)
+    if not number:
+        wire, back = repair(Plan(n, k, layers, dead), helpers, nodes)
+        for u, i in enumerate(dead):
+            nodes[i] = back[u]
+    told(number, wire)
+    words.append(mixed_symbols(0, [y for node in nodes for y in node]))
+    print(*words, "")
+
+
+def causes():
+    s = (3, 1, 1)
+    refused(s, (0,), (1, 2), 1, 0, 256, 4)
+    refused((2, 1, 1), (0,), (0, 1), 0, 1, 257, 3)
+    refused(s, (0,), (0, 1), 1, 0, 257, 3)
+    refused(s, (0,), (1, 2), 1, 1, 256, 4)
+    refused(s, (0,), (1, 2), 0, 0, 256, 4)
+    refused((4, 1, 1), (0, 1), (2, 3), 2, 0, 257, 3)
+    refused(s, (0,), (1, 2), 1, 0, 257, 3)
+    refused(s, (0,), (1, 2), 1, 0, 257, 4)
+
+
+def main():
+    for n in range(3, 9):
+        for k in range(1, n - 1):
+            for h in range(1, n - k):
+                line(n, k, h, sets_of(n, k, h))
+    for case in LARGE:
+        large(*case)
+    causes()
+
+
+main()
