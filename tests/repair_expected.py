@@ -233,6 +233,17 @@ def large(n, k, h, number):
     line(n, k, h, [(number, dead, helpers)])
 
 
+def apart(seed):
+    """A repair of symbols that are no codeword; each of its pieces is what the single calls give."""
+    flat = random_symbols(seed, 192)
+    nodes = [flat[i:i + 48] for i in range(0, 192, 48)]
+    dead = (0, 2)
+    wire, back = repair(Plan(4, 1, 3, dead), (1, 3), nodes)
+    nodes[0], nodes[2] = back
+    pieces = len(wire) // 16 + len(dead)
+    print(0, mixed_symbols(0, wire), mixed_symbols(0, [x for node in nodes for x in node]), *[1] * pieces, "")
+
+
 # ---- turning back
 
 def rising(n, nodes):
@@ -309,6 +320,8 @@ def main():
                 line(n, k, h, sets_of(n, k, h))
     for case in LARGE:
         large(*case)
+    for seed in (1, 2, 3):
+        apart(seed)
     causes()
 
 

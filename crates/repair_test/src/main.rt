@@ -689,11 +689,182 @@ fn causes() {
     refused(s, &one, &helpers, 1, 0, 257, 4);
 }
 
+// Part of a slice, where there is such a part.
+fn part(symbols: &[u16], from: usize, size: usize) -> &[u16] {
+    if symbols.len() < from {
+        return symbols;
+    }
+    if symbols.len() - from < size {
+        return symbols;
+    }
+    &symbols[from..from + size]
+}
+
+// 1 for equal pieces.
+fn equal(a: &[u16], b: &[u16]) -> u64 {
+    if a.len() != b.len() {
+        return 0;
+    }
+    let mut i = 0;
+    while i < a.len() {
+        if a[i] != b[i] {
+            return 0;
+        }
+        i += 1;
+    }
+    1
+}
+
+// Whether a helper's message is the piece of the wire.
+fn message_same(
+    s: Shape,
+    dead: &[usize],
+    helpers: &[usize],
+    helper: usize,
+    new: usize,
+    symbols: &[u16],
+    piece: &[u16],
+    message: &mut [u16],
+) -> u64 {
+    repair::helper_message(s, dead, helpers, helper, new, symbols, message);
+    equal(message, piece)
+}
+
+// Both steps of a new node: 1 where they give its symbols.
+fn steps_same(
+    s: Shape,
+    dead: &[usize],
+    helpers: &[usize],
+    new: usize,
+    messages: &[u16],
+    received: &[u16],
+    node: &[u16],
+    pairs: &mut [u16],
+    sums: &mut [u16],
+    symbols: &mut [u16],
+) -> u64 {
+    repair::first_step(s, dead, helpers, new, messages, pairs, sums);
+    repair::second_step(s, dead, helpers, new, pairs, received, symbols);
+    equal(symbols, node)
+}
+
+// Dead 0 and 2, helpers 1 and 3: the helpers' messages, called one by one, against the wire.
+fn messages_apart(s: Shape, dead: &[usize], helpers: &[usize], nodes: &[u16], wire: &[u16]) {
+    let mut message = [7u16; 16];
+    let one = part(nodes, 48, 48);
+    let three = part(nodes, 144, 48);
+    print(message_same(s, dead, helpers, 1, 0, one, part(wire, 0, 16), &mut message));
+    print(message_same(
+        s,
+        dead,
+        helpers,
+        3,
+        0,
+        three,
+        part(wire, 16, 16),
+        &mut message,
+    ));
+    print(message_same(
+        s,
+        dead,
+        helpers,
+        1,
+        2,
+        one,
+        part(wire, 32, 16),
+        &mut message,
+    ));
+    print(message_same(
+        s,
+        dead,
+        helpers,
+        3,
+        2,
+        three,
+        part(wire, 48, 16),
+        &mut message,
+    ));
+}
+
+// A new node's steps, called one by one, against its node and the message that it sent.
+fn steps_apart(
+    s: Shape,
+    dead: &[usize],
+    helpers: &[usize],
+    new: usize,
+    messages: &[u16],
+    received: &[u16],
+    node: &[u16],
+    sent: &[u16],
+) {
+    let mut pairs = [7u16; 32];
+    let mut sums = [7u16; 16];
+    let mut symbols = [7u16; 48];
+    print(steps_same(
+        s,
+        dead,
+        helpers,
+        new,
+        messages,
+        received,
+        node,
+        &mut pairs,
+        &mut sums,
+        &mut symbols,
+    ));
+    print(equal(&sums, sent));
+}
+
+// The pieces of a repair against the calls that it is made of: a 1 for each piece that is equal.
+fn pieces_apart(s: Shape, dead: &[usize], helpers: &[usize], nodes: &[u16], wire: &[u16]) {
+    messages_apart(s, dead, helpers, nodes, wire);
+    let to_zero = part(wire, 64, 16);
+    let to_two = part(wire, 80, 16);
+    let zero = part(nodes, 0, 48);
+    let two = part(nodes, 96, 48);
+    steps_apart(
+        s,
+        dead,
+        helpers,
+        0,
+        part(wire, 0, 32),
+        to_zero,
+        zero,
+        to_two,
+    );
+    steps_apart(
+        s,
+        dead,
+        helpers,
+        2,
+        part(wire, 32, 32),
+        to_two,
+        two,
+        to_zero,
+    );
+    end_line();
+}
+
+// A repair of symbols that are no codeword, as a whole and then step by step.
+fn apart(seed: u64) {
+    let s = shape_of(4, 1, 3);
+    let dead = [0usize, 2];
+    let helpers = [1usize, 3];
+    let mut nodes = [0u16; 192];
+    let mut wire = [7u16; 96];
+    fill_symbols(seed, &mut nodes);
+    tell_repair(s, &dead, &helpers, &mut nodes, &mut wire);
+    pieces_apart(s, &dead, &helpers, &nodes, &wire);
+}
+
 fn main() {
     let mut word = [0u16; MOST];
     let mut nodes = [0u16; MOST];
     let mut wire = [0u16; MOST];
     every(&mut word, &mut nodes, &mut wire);
     larger(&mut word, &mut nodes, &mut wire);
+    apart(1);
+    apart(2);
+    apart(3);
     causes();
 }
