@@ -3,7 +3,7 @@
 
     python3 tests/samples_expected.py > crates/samples_test/stdout
 
-Buffers are lent filled with 9 (65535 in a dead node), so that a line shows what a call left alone.
+Buffers that a call writes are lent filled with 9 (a dead node with 65535), so that a line shows what the call left alone.
 """
 
 ZEROS = [0] * 6
@@ -26,8 +26,8 @@ show(0)
 # the first archive, node 0 dead, helpers 1 and 2: messages 243 0 0 0 and 5 0 0 0; then the archive again
 show(0, 243, 0, 0, 0, 5, 0, 0, 0)
 show(*FIRST)
-# its card for node 1: 15 bytes in a buffer of 31, which had zeros behind
-show(15, 3, 1, 1, 1, 2, 253, 1, 247, 1, 0, 0, 0, 0, 0, 0, *[0] * 16)
+# its card for node 1: 15 bytes in a buffer of 31; bytes behind the card keep their values
+show(15, 3, 1, 1, 1, 2, 253, 1, 247, 1, 0, 0, 0, 0, 0, 0, *[9] * 16)
 # symbol bytes 129 2 (257) give 5, 128 0 gives 6, 128 2 is 256
 show(5, *[9] * 8)
 show(6, *[9] * 8)

@@ -77,7 +77,7 @@ fn print_repaired() {
     let mut nodes = [0u16; 24];
     code::write(tiny(), &[3u8, 6], &mut nodes);
     lose(8, &mut nodes);
-    let mut wire = [0u16; 8];
+    let mut wire = [9u16; 8];
     let dead = [0];
     let helpers = [1, 2];
     print_number(answer_number(repair::repair(tiny(), &dead, &helpers, &mut nodes, &mut wire)));
@@ -95,7 +95,7 @@ fn print_card() {
         node: 1,
         length: 2,
     };
-    let mut card = [0u8; 31];
+    let mut card = [9u8; 31];
     match card::pack(header, &nodes[8..16], &mut card) {
         Packed::Card(long) => print_number(long),
         Packed::Refused(cause) => print_number(number_of(cause)),
@@ -103,7 +103,7 @@ fn print_card() {
     print_bytes(&card);
 }
 
-// What a card of 16 zeros but its sixth and seventh byte is unpacked as.
+// What a card of node 1 is unpacked as, whose first symbol has these two bytes and whose others are 0.
 fn print_unpacked(b: u8, c: u8) {
     let bytes = [3, 1, 1, 1, 2, b, c, 0, 0, 0, 0, 0, 0, 0];
     let mut symbols = [9u16; 8];
