@@ -18,15 +18,15 @@ use Rattle.column.specs.declared.Outcome.{Outcome}
 use Rattle.shape.specs.declared.Shape.{Shape}
 use Rattle.shape.specs.Shape.{size}
 use Rattle.code.specs.Code.{narrow}
-use Rattle.steps.specs.Classes.{node, messageSize}
-use Rattle.steps.specs.Steps.{added, place, otherRank, exchangeAt, exchange, solved, ownPairs, contents}
+use Rattle.classes.specs.Classes.{node, messageSize}
+use Rattle.classes.specs.Steps.{added, place, otherRank, exchangeAt, exchange, solved, ownPairs, contents}
 use Rattle.repair.specs.Whole.{fromHelpers, fromSender, fromDead, wire, renewed, repairedSymbol, repaired}
 use Rattle.steps.specs.Solving.{slotOf}
 use Rattle.repair.specs.Wires.{inward, inwards, toRank, Messaged, Wired, Exchanged, fromOthers, Renewed}
-use Rattle.steps.proofs.Dead.{Dead, Accepted, dead-of}
-use Rattle.steps.proofs.FirstStep.{exchange-length}
+use Rattle.classes.proofs.Dead.{Dead, Accepted, dead-of}
+use Rattle.classes.proofs.FirstStep.{exchange-length}
 use Rattle.repair.proofs.Wire.{helpers-at}
-use Rattle.steps.proofs.Passes.{messageAt, message-table}
+use Rattle.classes.proofs.Passes.{messageAt, message-table}
 use Rattle.steps.proofs.Sending.{other-is}
 use Rattle.repair.proofs.OnWire.{helpers-length}
 

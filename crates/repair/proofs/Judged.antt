@@ -20,10 +20,10 @@ use Rattle.shape.proofs.Accepted.{passed, shape-accepted, repair-accepted, laye
 use Rattle.shape.proofs.Answers.{number-positive, afterwards-refused}
 use Rattle.code.specs.Code.{narrow}
 use Rattle.code.proofs.Accepted.{narrow-accepted}
-use Rattle.steps.specs.Classes.{batch, messageSize}
+use Rattle.classes.specs.Classes.{batch, messageSize}
 use Rattle.repair.specs.Refusals.{listsRefusal, messageRefusal, firstStepRefusal, secondStepRefusal, nodeGood, wholeRefusal}
 use Rattle.steps.specs.Solving.{Helped}
-use Rattle.steps.proofs.Dead.{Accepted}
+use Rattle.classes.proofs.Dead.{Accepted}
 
 pub refuse-true : (t : Bool) (number rest : ℕ) → t ≡ true → refuse t number rest ≡ number
 refuse-true t number rest e = rw e

@@ -15,15 +15,15 @@ use Rattle.shape.specs.declared.Shape.{Shape}
 use Rattle.shape.specs.Shape.{size}
 use Rattle.shape.proofs.Accepted.{shape-accepted}
 use Rattle.code.specs.Code.{narrow}
-use Rattle.steps.specs.declared.Layout.{Layout}
-use Rattle.steps.specs.Classes.{messageSize}
-use Rattle.steps.specs.Layout.{Ready}
+use Rattle.classes.specs.declared.Layout.{Layout}
+use Rattle.classes.specs.Classes.{messageSize}
+use Rattle.classes.specs.Layout.{Ready}
 use Rattle.repair.specs.Whole.{fromHelper, fromHelpers}
 use Rattle.steps.specs.Solving.{HandedOut}
 use Rattle.repair.specs.Wires.{inward, inwards, toRank, fromOthers}
-use Rattle.steps.proofs.Dead.{Dead}
-use Rattle.steps.proofs.FirstStep.{message-length}
-use Rattle.steps.proofs.Layouts.{bounded, share-high}
+use Rattle.classes.proofs.Dead.{Dead}
+use Rattle.classes.proofs.FirstStep.{message-length}
+use Rattle.classes.proofs.Layouts.{bounded, share-high}
 use Rattle.repair.proofs.Parts.{row-within, piece-part, piece-front, tail-lent, tail-back}
 
 pub helpers-length : {s : Shape} {dead : List ℕ} → Dead s dead → (helpers nodes : List ℕ) → length helpers ≡ s .k + 1 → (u : ℕ)

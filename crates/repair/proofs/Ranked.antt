@@ -14,12 +14,12 @@ use Rattle.column.specs.declared.Outcome.the-variants.{Solved}
 use Rattle.shape.specs.declared.Shape.{Shape}
 use Rattle.shape.specs.Shape.{size}
 use Rattle.code.specs.Code.{narrow}
-use Rattle.steps.specs.Classes.{node, messageSize}
-use Rattle.steps.specs.Steps.{solved, ownPairs, contents}
+use Rattle.classes.specs.Classes.{node, messageSize}
+use Rattle.classes.specs.Steps.{solved, ownPairs, contents}
 use Rattle.steps.specs.Storing.{Paired, Recovers}
 use Rattle.steps.specs.Solving.{slotOf}
 use Rattle.repair.specs.Wires.{inwards, toRank, FirstOnWire, Exchanged, fromOthers, Renewed}
-use Rattle.steps.proofs.Dead.{Dead, node-below, node-own}
+use Rattle.classes.proofs.Dead.{Dead, node-below, node-own}
 use Rattle.steps.proofs.Slots.{senders-apart}
 use Rattle.repair.proofs.Parts.{put-piece-length, put-piece, put-other}
 use Rattle.repair.proofs.OnWire.{to-rank-front}

@@ -9,10 +9,10 @@ use Rattle.shape.specs.Shape.{size}
 use Rattle.shape.specs.declared.Answer.{Answer}
 use Rattle.shape.specs.Refusals.{answerNumber, afterwards}
 use Rattle.code.specs.Code.{narrow}
-use Rattle.steps.specs.Classes.{node, messageSize}
+use Rattle.classes.specs.Classes.{node, messageSize}
 use Rattle.repair.specs.Whole as Whole
 use Rattle.repair.specs.Whole.{repaired, WholeRepair}
-use Rattle.steps.specs.Steps.{place, helperMessage, ownPairs, exchanges, contents}
+use Rattle.classes.specs.Steps.{place, helperMessage, ownPairs, exchanges, contents}
 use Rattle.repair.specs.Refusals.{messageRefusal, firstStepRefusal, secondStepRefusal, wholeRefusal}
 
 -- "A helper makes its message": the message to the new node, from the helper's N symbols

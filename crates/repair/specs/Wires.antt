@@ -11,8 +11,8 @@ use Rattle.column.specs.Solving.{element}
 use Rattle.shape.specs.declared.Shape.{Shape}
 use Rattle.shape.specs.Shape.{size}
 use Rattle.code.specs.Code.{narrow}
-use Rattle.steps.specs.Classes.{node, placeAt, messageSize}
-use Rattle.steps.specs.Steps.{solved, ownPairs, contents}
+use Rattle.classes.specs.Classes.{node, placeAt, messageSize}
+use Rattle.classes.specs.Steps.{solved, ownPairs, contents}
 use Rattle.repair.specs.Whole.{fromHelpers}
 use Rattle.steps.specs.Storing.{Paired}
 use Rattle.steps.specs.Solving.{slotOf, HandedOut, Helped}

@@ -1,15 +1,4 @@
--- Laws of the steps of a repair, lowest first.
-pub mod Sizes
-pub mod Dead
-pub mod Turns
-pub mod Ranks
-pub mod Counts
-pub mod Sums
-pub mod Adding
-pub mod FirstStep
-pub mod SecondStep
-pub mod Layouts
-pub mod Passes
+-- Laws of what the functions of one rank store and send, lowest first.
 pub mod Storing
 pub mod Recovery
 pub mod Placing

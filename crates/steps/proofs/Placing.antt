@@ -6,7 +6,7 @@ use Prim.Native.Nat.{ℕ, _+_, _-_, _≤_, _<_}
 use native.Mathlib.Omega.{arith}
 use lib.Dec.{ltb}
 use Rattle.lists.proofs.Tests.{below-or-not, cond-below, cond-beyond}
-use Rattle.steps.specs.Steps.{otherRank, place}
+use Rattle.classes.specs.Steps.{otherRank, place}
 
 -- rank v stands at its place among the ranks but u
 module _ (h u v : ℕ) (l : u < h) (m : v < h) (d : v ≢ u) where

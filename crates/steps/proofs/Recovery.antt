@@ -20,13 +20,13 @@ use Rattle.field.specs.Residues.{minus}
 use Rattle.shape.specs.declared.Shape.{Shape}
 use Rattle.shape.specs.Shape.{size}
 use Rattle.code.specs.Code.{Code}
-use Rattle.steps.specs.Classes.{batch, top, node, classOf, rankClass, partner, turningRank, rankAt, placeOf, Sum, sumAt, sumPlace}
-use Rattle.steps.specs.Steps.{own, sent, across, origin, layer0, layer, symbolOf, contentsAt, contents}
+use Rattle.classes.specs.Classes.{batch, top, node, classOf, rankClass, partner, turningRank, rankAt, placeOf, Sum, sumAt, sumPlace}
+use Rattle.classes.specs.Steps.{own, sent, across, origin, layer0, layer, symbolOf, contentsAt, contents}
 use Rattle.steps.specs.Storing.{sumSymbol, Paired, sentBy, Crossed, Begun}
-use Rattle.steps.proofs.Sizes.{batch-pos, parts}
-use Rattle.steps.proofs.Dead.{Dead, flip-node-lt}
-use Rattle.steps.proofs.Turns.{class-le, class-turned, partner-keeps}
-use Rattle.steps.proofs.Ranks.{Rank, partner-lt, rankClass-le, turning-rank, rank-at}
+use Rattle.classes.proofs.Sizes.{batch-pos, parts}
+use Rattle.classes.proofs.Dead.{Dead, flip-node-lt}
+use Rattle.classes.proofs.Turns.{class-le, class-turned, partner-keeps}
+use Rattle.classes.proofs.Ranks.{Rank, partner-lt, rankClass-le, turning-rank, rank-at}
 use Rattle.steps.proofs.Storing.{place-own, sum-first, sum-other, turning, turning-class}
 
 -- ---- which rank's sums end at a place: each place but class 0 of layer 0 is the other place of one rank's sum, and of no other's

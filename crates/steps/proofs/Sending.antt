@@ -17,11 +17,11 @@ use Rattle.lists.proofs.Buffers.{onto, onto-none, onto-more, onto-end}
 use Rattle.column.specs.Solving.{element}
 use Rattle.shape.specs.declared.Shape.{Shape}
 use Rattle.code.specs.Code.{narrow}
-use Rattle.steps.specs.Classes.{node, messageSize}
-use Rattle.steps.specs.Steps.{place, otherRank, solved, ownPair, ownPairs, exchangeAt, exchange, exchangeTo, exchanges}
+use Rattle.classes.specs.Classes.{node, messageSize}
+use Rattle.classes.specs.Steps.{place, otherRank, solved, ownPair, ownPairs, exchangeAt, exchange, exchangeTo, exchanges}
 use Rattle.steps.specs.Solving.{Told, Helped, slotOf, HandedOut}
-use Rattle.steps.proofs.Dead.{Dead, node-below}
-use Rattle.steps.proofs.FirstStep.{exchange-length}
+use Rattle.classes.proofs.Dead.{Dead, node-below}
+use Rattle.classes.proofs.FirstStep.{exchange-length}
 use Rattle.steps.proofs.Slots.{slot-symbol-own}
 
 -- at each sum

@@ -13,7 +13,7 @@ use Rattle.lists.proofs.Tests.{below-or-not}
 use Rattle.column.specs.Solving.{mostEntries}
 use Rattle.code.specs.Code.{narrow, point, morePoints}
 use Rattle.code.proofs.NodePoints.{more-length, more-at, more-behind}
-use Rattle.steps.specs.Steps.{place, otherRank}
+use Rattle.classes.specs.Steps.{place, otherRank}
 use Rattle.steps.specs.Solving.{MorePoints, slotOf, slots}
 use Rattle.steps.proofs.Placing.{place-below, other-place}
 

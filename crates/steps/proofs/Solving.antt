@@ -17,8 +17,8 @@ use Rattle.shape.specs.Shape.{mostNodes}
 use Rattle.shape.specs.declared.Shape.{Shape}
 use Rattle.code.specs.Code.{narrow, morePoints, GoodCode}
 use Rattle.code.proofs.NodePoints.{more-length, more-good}
-use Rattle.steps.specs.Classes.{node, spotAt, messageSize}
-use Rattle.steps.specs.Steps.{solved}
+use Rattle.classes.specs.Classes.{node, spotAt, messageSize}
+use Rattle.classes.specs.Steps.{solved}
 use Rattle.steps.specs.Solving.{Told, MorePoints, SolvedSum}
 
 module _ (s : Shape) (dead helpers : List ℕ) (u : ℕ) (messages : List ℕ) (x a : ℕ) (good : GoodCode narrow (s .n)) (high : s .n ≤ mostNodes) (i-low : node dead u < s .n)

@@ -17,14 +17,14 @@ use Rattle.lists.proofs.Flips.{flip-flip}
 use Rattle.field.specs.Residues.{minus}
 use Rattle.shape.specs.declared.Shape.{Shape}
 use Rattle.code.specs.Code.{Code}
-use Rattle.steps.specs.Classes.{batch, top, node, classOf, rankClass, partner, turningRank, placeOf, Sum, sumAt, sumPlace, placeAt, messageSize}
+use Rattle.classes.specs.Classes.{batch, top, node, classOf, rankClass, partner, turningRank, placeOf, Sum, sumAt, sumPlace, placeAt, messageSize}
 use Rattle.steps.specs.Storing.{sumSymbol, Crossed}
-use Rattle.steps.proofs.Sizes.{batch-pos, parts}
-use Rattle.steps.proofs.Ranks.{partner-lt}
-use Rattle.steps.proofs.Dead.{Dead, flip-node-lt}
-use Rattle.steps.proofs.Turns.{class-turns}
-use Rattle.steps.proofs.Sums.{sumAt-lt}
-use Rattle.steps.proofs.Passes.{Here}
+use Rattle.classes.proofs.Sizes.{batch-pos, parts}
+use Rattle.classes.proofs.Ranks.{partner-lt}
+use Rattle.classes.proofs.Dead.{Dead, flip-node-lt}
+use Rattle.classes.proofs.Turns.{class-turns}
+use Rattle.classes.proofs.Sums.{sumAt-lt}
+use Rattle.classes.proofs.Passes.{Here}
 
 -- ---- places
 

@@ -1,6 +1,3 @@
--- The steps of a repair: classes and sums, messages, the first and the second step.
-pub mod Classes
-pub mod Layout
-pub mod Steps
+-- What the functions of one rank promise: pairs stored and ranks crossed, sums solved and handed out.
 pub mod Storing
 pub mod Solving

@@ -11,8 +11,8 @@ use Rattle.column.specs.declared.Solution.{Solution}
 use Rattle.column.specs.Solving.{mostEntries, element}
 use Rattle.shape.specs.declared.Shape.{Shape}
 use Rattle.code.specs.Code.{narrow, morePoints}
-use Rattle.steps.specs.Classes.{node, messageSize}
-use Rattle.steps.specs.Steps.{place, solved, ownPairs, exchanges}
+use Rattle.classes.specs.Classes.{node, messageSize}
+use Rattle.classes.specs.Steps.{place, solved, ownPairs, exchanges}
 
 -- the helpers, and the sums that they sent of sum x of rank u
 pub record Told (s : Shape) (dead helpers : List ℕ) (u : ℕ) (messages : List ℕ) (x : ℕ) : Type 0 where

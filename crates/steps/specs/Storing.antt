@@ -7,8 +7,8 @@ use Rattle.field.specs.Residues.{minus}
 use Rattle.shape.specs.declared.Shape.{Shape}
 use Rattle.shape.specs.Shape.{size}
 use Rattle.code.specs.Code.{Code}
-use Rattle.steps.specs.Classes.{rankClass, turningRank, Sum, sumAt, sumPlace, messageSize}
-use Rattle.steps.specs.Steps.{place, contents}
+use Rattle.classes.specs.Classes.{rankClass, turningRank, Sum, sumAt, sumPlace, messageSize}
+use Rattle.classes.specs.Steps.{place, contents}
 
 -- the symbol at the first (which = 0) or other (1) place of the sum of batch b and a
 unfoldable pub sumSymbol : Shape → List ℕ → ℕ → ℕ → ℕ → ℕ → List ℕ → ℕ

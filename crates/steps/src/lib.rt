@@ -1,187 +1,32 @@
-// The steps of a repair, for one rank: classes and sums, a helper's message, the first and the second step of a new node.
+// The work of one rank in a repair: a helper's message, the first and the second step of a new node.
+use classes::Layout;
+use classes::first_places;
+use classes::of_class;
+use classes::place;
+use classes::rank_class;
+use classes::sum_at;
 use code::MODULUS;
 use code::point;
 use column::ENTRIES;
 use column::Outcome;
 use column::Solution;
 use column::complete;
-use field::add;
 use field::subtract;
-use shape::Shape;
 use shape::batch;
 use shape::size;
-use shape::two_to;
 ghost use mathlib.Core.Path.{_≡_};
-ghost use mathlib.Core.Bool.{true, false, cond};
 ghost use Prim.Native.Nat.{ℕ, _+_, _-_, _*_, _%_, _^_, _≤_, _<_};
-ghost use lib.Bits.{bitXor};
-ghost use lib.Dec.{eqb};
 ghost use lib.ListN.{length, getD, set};
-ghost use Rattle.lists.specs.Digits.{bit, flip};
 ghost use Rattle.shape.specs.Shape.{mostNodes, size};
-ghost use Rattle.shape.specs.Refusals.{shapeBad};
-ghost use Rattle.steps.specs.Classes.{batch, node, classOf, rankClass, partner, placeOf, inClass, spotAt, placeAt, messageSize};
-ghost use Rattle.steps.specs.Steps.{addedAt, helperMessage, place};
-ghost use Rattle.steps.specs.Layout.{Ready};
+ghost use Rattle.classes.specs.Classes.{node, spotAt, messageSize};
+ghost use Rattle.classes.specs.Steps.{helperMessage, place};
+ghost use Rattle.classes.specs.Layout.{Ready};
 ghost use Rattle.steps.specs.Storing.{Paired, sentBy, Crossed, Begun, Recovers};
 ghost use Rattle.field.specs.Residues.{minus};
 ghost use Rattle.column.specs.Solving.{mostEntries, element};
 ghost use Rattle.steps.specs.Solving.{Told, MorePoints, SolvedSum, slotOf, slots, HandedOut, Helped, FirstDone};
 ghost use Rattle.code.specs.Code.{narrow};
-ghost use Rattle.lists.specs.Lists.{all, member, position, rising};
-
-// What the shape and the dead nodes fix, worked out once for each call.
-pub struct Layout {
-    pub shape: Shape,
-    // 2^n, the places of a layer.
-    pub places: usize,
-    // s of document 01, the layers of a batch.
-    pub batch: usize,
-    pub batches: usize,
-    // H of document 01, the highest class.
-    pub top: usize,
-    // N/(h+1), the symbols of a message.
-    pub share: usize,
-}
-
-// The class so far, with v + 1 mixed in where bit i of a is set.
-fn mixed(class: usize, v: usize, i: usize, a: usize) -> usize
-    requires { ⌜ (i < mostNodes) × (v < mostNodes) ⌝ }
-    ensures { λ r. ⌜ r ≡ bitXor class (cond (eqb (bit i a) 1) (v + 1) 0) ⌝ }
-{
-    if (a >> i) % 2 == 1 {
-        class ^ (v + 1)
-    } else {
-        class
-    }
-}
-
-// "The class of a is the exclusive or of all v+1, v from 0 to H−1, where bit i_(s×v) of a is set."
-fn class_of(g: Layout, dead: &[usize], a: usize) -> usize
-    requires { ⌜ Ready (now dead) g ⌝ }
-    ensures { λ r. ⌜ r ≡ classOf (now (dead .entry)) a ⌝ }
-{
-    let batch = g.batch;
-    let top = g.top;
-    let mut class = 0;
-    for v in 0..top {
-        class = mixed(class, v, dead[batch * v], a);
-    }
-    class
-}
-
-// a with bit i flipped.
-fn flipped(i: usize, a: usize) -> usize
-    requires { ⌜ (i < mostNodes) × (a < 2 ^ mostNodes) ⌝ }
-    ensures { λ r. ⌜ r ≡ flip i a ⌝ }
-{
-    let worth = two_to(i);
-    if a / worth % 2 == 0 {
-        a + worth
-    } else {
-        a - worth
-    }
-}
-
-// The table's column "its class", of rank u.
-pub fn rank_class(g: Layout, dead: &[usize], u: usize) -> usize
-    requires { ⌜ Ready (now dead) g ⌝ }
-    ensures { λ r. ⌜ r ≡ rankClass (now (dead .entry)) u ⌝ }
-{
-    let batch = g.batch;
-    let top = g.top;
-    if u / batch < top {
-        if u % batch == 0 { 0 } else { u / batch }
-    } else {
-        top
-    }
-}
-
-// The table's column "partner layer".
-fn partner(g: Layout, dead: &[usize], u: usize) -> usize
-    requires { ⌜ (Ready (now dead) g) × (u < length (now dead)) ⌝ }
-    ensures { λ r. ⌜ r ≡ partner (now (dead .entry)) u ⌝ }
-{
-    let batch = g.batch;
-    let top = g.top;
-    if u / batch < top {
-        u % batch
-    } else {
-        u % batch + 1
-    }
-}
-
-// The place of layer w of batch b, at a.
-fn place_of(g: Layout, dead: &[usize], w: usize, b: usize, a: usize) -> usize
-    requires { ⌜ (Ready (now dead) g) × (w < g .batch) × (b < g .batches) × (a < g .places) ⌝ }
-    ensures { λ r. ⌜ (r < size (g .shape)) × (r ≡ placeOf (g .shape) (now (dead .entry)) w b a) ⌝ }
-{
-    let batch = g.batch;
-    let places = g.places;
-    (batch * b + w) * places + a
-}
-
-// What a repair works with, once its causes 1 to 3 are judged: N/(h+1) is worked out here and not before.
-pub fn laid_out(s: Shape, dead: &[usize]) -> Layout
-    requires { ⌜ (shapeBad s ≡ false) × (rising 0 (s .n) (now dead) ≡ true) × (1 ≤ length (now dead)) × (length (now dead) < s .n) × (s .layers % batch (now dead) ≡ 0) ⌝ }
-    ensures { λ g. ⌜ (g .shape ≡ s) × (Ready (now (dead .entry)) g) ⌝ }
-{
-    let n = s.n;
-    let layers = s.layers;
-    let h = dead.len();
-    let batch = batch(h);
-    let places = two_to(n);
-    let share = size(s) / (h + 1);
-    Layout {
-        shape: s,
-        places,
-        batch,
-        batches: layers / batch,
-        top: (h + 1) / batch - 1,
-        share,
-    }
-}
-
-// The first (which = 0) or the other (1) place of rank u's sum at e, which counts the places of all batches' layers 0.
-pub fn place(g: Layout, dead: &[usize], u: usize, which: usize, e: usize) -> usize
-    requires { ⌜ (Ready (now dead) g) × (u < length (now dead)) × (e < g .batches * g .places) ⌝ }
-    ensures { λ r. ⌜ (r < size (g .shape)) × (r ≡ placeAt (g .shape) (now (dead .entry)) u which e) ⌝ }
-{
-    let places = g.places;
-    if which == 0 {
-        place_of(g, dead, 0, e / places, e % places)
-    } else {
-        let turned = flipped(dead[u], e % places);
-        place_of(g, dead, partner(g, dead, u), e / places, turned)
-    }
-}
-
-// Whether the a at e has class c.
-pub fn of_class(g: Layout, dead: &[usize], c: usize, e: usize) -> bool
-    requires { ⌜ Ready (now dead) g ⌝ }
-    ensures { λ r. ⌜ r ≡ inClass (now (dead .entry)) c (e % 2 ^ g .shape .n) ⌝ }
-{
-    let places = g.places;
-    class_of(g, dead, e % places) == c
-}
-
-// "the helper's symbol at (layer 0, a) plus its symbol at (partner layer, a with bit i_u flipped)"
-fn sum_at(g: Layout, dead: &[usize], u: usize, e: usize, symbols: &[u16]) -> u16
-    requires { ⌜ (Ready (now dead) g) × (u < length (now dead)) × (e < g .batches * g .places) × (length (now symbols) ≡ size (g .shape)) ⌝ }
-    ensures { λ r. ⌜ r ≡ addedAt narrow (g .shape) (now (dead .entry)) u (now (symbols .entry)) e ⌝ }
-{
-    let one = place(g, dead, u, 0, e);
-    let other = place(g, dead, u, 1, e);
-    add(MODULUS, symbols[one] as u32, symbols[other] as u32) as u16
-}
-
-// How many places all batches' layers 0 have.
-pub fn first_places(g: Layout, dead: &[usize]) -> usize
-    requires { ⌜ Ready (now dead) g ⌝ }
-    ensures { λ r. ⌜ r ≡ g .batches * g .places ⌝ }
-{
-    g.batches * g.places
-}
+ghost use Rattle.lists.specs.Lists.{all};
 
 // The message to rank u of a helper with these N symbols; x is the number of the sum at e.
 pub fn message_to(g: Layout, dead: &[usize], u: usize, symbols: &[u16], message: &mut [u16])
@@ -455,19 +300,4 @@ pub fn first_into(
         x += 1;
     }
     Outcome::Solved
-}
-
-// The rank of a dead node: its position in the list.
-pub fn rank_of(g: Layout, dead: &[usize], new: usize) -> usize
-    requires { ⌜ (Ready (now dead) g) × (member new (now dead) ≡ true) ⌝ }
-    ensures { λ r. ⌜ (r < length (now (dead .entry))) × (r ≡ position new (now (dead .entry))) ⌝ }
-{
-    let mut u = 0;
-    while u < dead.len() {
-        if new == dead[u] {
-            return u;
-        }
-        u += 1;
-    }
-    0
 }

@@ -2,7 +2,7 @@
 use mathlib.Core.Path.{sym}
 use borrow.Author.Needs.{needs}
 use Rattle.lists.proofs.Tests.{cond-below, cond-beyond}
-use Rattle.steps.specs.Steps.{otherRank}
+use Rattle.classes.specs.Steps.{otherRank}
 use Rattle.plan.proofs.other_rank.Statement.{statement}
 use Rattle.plan.proofs.other_rank.Tie as tie
 

@@ -5,7 +5,7 @@ use native.Mathlib.Nat.{mul-le-mul}
 use native.Mathlib.Omega.{arith}
 use lib.ListN.{length}
 use Rattle.lists.proofs.Places.{Place, place-of}
-use Rattle.steps.specs.Classes.{node}
+use Rattle.classes.specs.Classes.{node}
 use Rattle.plan.specs.Plan.{helperTransfer, deadTransfer}
 use Rattle.plan.proofs.Transfers.{transfers-length, transfer-first, transfer-second, other-below}
 use Rattle.plan.proofs.transfer_at.Statement.{statement}

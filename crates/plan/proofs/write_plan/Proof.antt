@@ -4,7 +4,7 @@ use Prim.Native.Nat.{_+_, _/_}
 use native.Mathlib.Omega.{arith}
 use borrow.Author.Needs.{needs}
 use lib.ListN.{length}
-use Rattle.steps.specs.Classes.{messageSize}
+use Rattle.classes.specs.Classes.{messageSize}
 use Rattle.plan.proofs.Room.{senders-high, count-high, total-high, few-listed, first-room, transfers-room, total-room, plan-put}
 use Rattle.plan.proofs.write_plan.Statement.{statement}
 use Rattle.plan.proofs.write_plan.Tie as tie

@@ -7,9 +7,9 @@ use borrow.Author.Needs.{needs}
 use lib.ListN.{length, getD, length-take, length-drop}
 use Rattle.shape.specs.Shape.{size}
 use Rattle.shape.proofs.Accepted.{shape-accepted}
-use Rattle.steps.specs.Classes.{node}
+use Rattle.classes.specs.Classes.{node}
 use Rattle.repair.specs.Wires.{Wired}
-use Rattle.steps.proofs.Layouts.{ready-dead, node-high}
+use Rattle.classes.proofs.Layouts.{ready-dead, node-high}
 use Rattle.repair.proofs.Parts.{row-within}
 use Rattle.repair.proofs.OnWire.{to-rank-front}
 use Rattle.repair.proofs.Ranked.{Exchanging, exchanging-none, exchanging-more, exchanging-end}

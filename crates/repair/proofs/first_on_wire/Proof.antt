@@ -11,14 +11,14 @@ use lib.Seq.{getD-drop}
 use Rattle.shape.specs.declared.Shape.{Shape}
 use Rattle.shape.specs.Shape.{size}
 use Rattle.code.specs.Code.{narrow}
-use Rattle.steps.specs.Classes.{spot, messageSize}
-use Rattle.steps.specs.Steps.{ownPair, ownPairs}
+use Rattle.classes.specs.Classes.{spot, messageSize}
+use Rattle.classes.specs.Steps.{ownPair, ownPairs}
 use Rattle.steps.specs.Storing.{sumSymbol}
 use Rattle.repair.specs.Wires.{inwards, toRank}
-use Rattle.steps.proofs.Ranks.{rankClass-le}
-use Rattle.steps.proofs.FirstStep.{pairs-at}
-use Rattle.steps.proofs.Layouts.{share-high, ready-dead}
-use Rattle.steps.proofs.Passes.{numberAt, number-none, number-yes, number-no, number-all, Here, here, spot-number, missed, sum-below, place-below}
+use Rattle.classes.proofs.Ranks.{rankClass-le}
+use Rattle.classes.proofs.FirstStep.{pairs-at}
+use Rattle.classes.proofs.Layouts.{share-high, ready-dead}
+use Rattle.classes.proofs.Passes.{numberAt, number-none, number-yes, number-no, number-all, Here, here, spot-number, missed, sum-below, place-below}
 use Rattle.steps.proofs.Storing.{Pairing, pairing-none, pairing-skip, pairing-more}
 use Rattle.steps.proofs.Sending.{helped-told, Sending, sending-none, sending-more}
 use Rattle.repair.proofs.OnWire.{to-rank-front}

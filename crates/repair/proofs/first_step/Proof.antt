@@ -7,7 +7,7 @@ use lib.ListN.{length}
 use Rattle.shape.specs.Refusals.{answerNumber}
 use Rattle.shape.proofs.Answers.{afterwards-done}
 use Rattle.code.specs.Code.{narrow}
-use Rattle.steps.specs.Steps.{ownPairs, exchanges}
+use Rattle.classes.specs.Steps.{ownPairs, exchanges}
 use Rattle.repair.specs.Refusals.{firstStepRefusal}
 use Rattle.repair.proofs.Judged.{turned-back, lists-ready, FirstPassed, first-passed, first-helped}
 use Rattle.repair.proofs.first_step.Statement.{statement}

@@ -7,11 +7,11 @@ use borrow.Author.Needs.{needs}
 use lib.ListN.{length, getD, set, length-take, length-drop}
 use Rattle.column.specs.Solving.{element}
 use Rattle.code.specs.Code.{narrow}
-use Rattle.steps.specs.Classes.{node}
-use Rattle.steps.specs.Steps.{solved}
+use Rattle.classes.specs.Classes.{node}
+use Rattle.classes.specs.Steps.{solved}
 use Rattle.steps.specs.Solving.{slots}
 use Rattle.repair.specs.Wires.{toRank}
-use Rattle.steps.proofs.Layouts.{node-high}
+use Rattle.classes.proofs.Layouts.{node-high}
 use Rattle.repair.proofs.Parts.{tail-length, tail-front}
 use Rattle.repair.proofs.OnWire.{Room, wire-room, lent-rank, tail-handed}
 use Rattle.repair.proofs.first_sum.Statement.{statement}

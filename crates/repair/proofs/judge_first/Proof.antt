@@ -7,7 +7,7 @@ use borrow.Author.Needs.{needs}
 use lib.ListN.{length}
 use Rattle.lists.specs.Lists.{outside}
 use Rattle.shape.specs.Refusals.{wrongLength}
-use Rattle.steps.specs.Classes.{messageSize}
+use Rattle.classes.specs.Classes.{messageSize}
 use Rattle.repair.specs.Refusals.{firstStepRefusal}
 use Rattle.repair.proofs.Judged.{Listed, small, share-fits, judged-stop, judged-listed, judged-length, judged-symbols, judged-done}
 use Rattle.repair.proofs.judge_first.Statement.{statement}

@@ -6,9 +6,9 @@ use borrow.Author.Needs.{needs}
 use Rattle.shape.specs.Refusals.{shapeBad}
 use Rattle.lists.proofs.Tests.{neither}
 use Rattle.shape.proofs.Accepted.{shape-accepted, repair-accepted}
-use Rattle.steps.specs.Classes.{batch}
+use Rattle.classes.specs.Classes.{batch}
 use Rattle.repair.specs.Refusals.{listsRefusal}
-use Rattle.steps.proofs.Sizes.{batch-pos}
+use Rattle.classes.proofs.Sizes.{batch-pos}
 use Rattle.repair.proofs.judge_lists.Statement.{statement}
 use Rattle.repair.proofs.judge_lists.Tie as tie
 

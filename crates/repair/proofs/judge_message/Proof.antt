@@ -3,7 +3,7 @@ use mathlib.Core.Path.{sym, _∙_}
 use borrow.Author.Needs.{needs}
 use Rattle.lists.specs.Lists.{outside}
 use Rattle.shape.specs.Refusals.{wrongLength}
-use Rattle.steps.specs.Classes.{messageSize}
+use Rattle.classes.specs.Classes.{messageSize}
 use Rattle.repair.specs.Refusals.{messageRefusal}
 use Rattle.repair.proofs.Judged.{judged-stop, judged-listed, judged-length, judged-symbols, judged-done}
 use Rattle.repair.proofs.judge_message.Statement.{statement}

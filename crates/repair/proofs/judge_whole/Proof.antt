@@ -7,7 +7,7 @@ use native.Mathlib.Omega.{arith}
 use borrow.Author.Needs.{needs}
 use lib.ListN.{length}
 use Rattle.shape.specs.Refusals.{wrongLength}
-use Rattle.steps.specs.Classes.{messageSize}
+use Rattle.classes.specs.Classes.{messageSize}
 use Rattle.lists.proofs.Tests.{neither}
 use Rattle.shape.specs.Shape.{mostNodes}
 use Rattle.shape.proofs.Accepted.{repair-accepted}

@@ -14,11 +14,11 @@ use Rattle.lists.proofs.Buffers.{onto, onto-none}
 use Rattle.shape.specs.Shape.{size}
 use Rattle.shape.proofs.Accepted.{shape-accepted}
 use Rattle.code.specs.Code.{narrow}
-use Rattle.steps.specs.Classes.{messageSize}
-use Rattle.steps.specs.Steps.{helperMessage}
+use Rattle.classes.specs.Classes.{messageSize}
+use Rattle.classes.specs.Steps.{helperMessage}
 use Rattle.repair.specs.Whole.{fromHelper, fromHelpers}
-use Rattle.steps.proofs.FirstStep.{message-length}
-use Rattle.steps.proofs.Layouts.{ready-dead, share-high}
+use Rattle.classes.proofs.FirstStep.{message-length}
+use Rattle.classes.proofs.Layouts.{ready-dead, share-high}
 use Rattle.repair.proofs.Parts.{row-within, piece-part, flat-put, flat-whole}
 use Rattle.repair.proofs.messages_to.Statement.{statement}
 use Rattle.repair.proofs.messages_to.Tie as tie

@@ -9,8 +9,8 @@ use lib.ListN.{length, getD, length-take, length-drop}
 use Rattle.lists.specs.Lists.{piece}
 use Rattle.shape.specs.Shape.{size}
 use Rattle.shape.proofs.Accepted.{shape-accepted}
-use Rattle.steps.specs.Classes.{node, messageSize}
-use Rattle.steps.proofs.Layouts.{ready-dead, node-high, bounded, share-high}
+use Rattle.classes.specs.Classes.{node, messageSize}
+use Rattle.classes.proofs.Layouts.{ready-dead, node-high, bounded, share-high}
 use Rattle.repair.proofs.Parts.{row-within, piece-part}
 use Rattle.repair.proofs.OnWire.{Room, wire-room, lent-others}
 use Rattle.repair.proofs.Ranked.{Renewing, renewing-none, renewing-more, renewing-end, recovers-as}

@@ -5,7 +5,7 @@ use lib.ListN.{length}
 use Rattle.shape.specs.Refusals.{answerNumber}
 use Rattle.shape.proofs.Answers.{afterwards-done}
 use Rattle.code.specs.Code.{narrow}
-use Rattle.steps.specs.Steps.{contents}
+use Rattle.classes.specs.Steps.{contents}
 use Rattle.repair.specs.Refusals.{secondStepRefusal}
 use Rattle.repair.proofs.Judged.{turned-back, lists-ready, SecondPassed, second-passed}
 use Rattle.repair.proofs.second_step.Statement.{statement}

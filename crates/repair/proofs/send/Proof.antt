@@ -8,10 +8,10 @@ use lib.ListN.{length, take, length-take, length-drop}
 use Rattle.lists.specs.Lists.{flat}
 use Rattle.lists.proofs.Buffers.{onto}
 use Rattle.code.specs.Code.{narrow}
-use Rattle.steps.specs.Classes.{messageSize}
+use Rattle.classes.specs.Classes.{messageSize}
 use Rattle.repair.specs.Whole.{fromHelpers}
 use Rattle.repair.specs.Wires.{inward, inwards}
-use Rattle.steps.proofs.Layouts.{ready-dead}
+use Rattle.classes.proofs.Layouts.{ready-dead}
 use Rattle.repair.proofs.Parts.{flat-start, flat-put, flat-front}
 use Rattle.repair.proofs.OnWire.{helpers-length, Room, wire-room}
 use Rattle.repair.proofs.send.Statement.{statement}

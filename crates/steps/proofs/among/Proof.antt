@@ -1,7 +1,7 @@
 -- `steps::among` meets its contract: by which of the two is lower. Assumes nothing.
 use borrow.Author.Needs.{needs}
 use borrow.Author.Tests.{lt-ltb, le-ltb}
-use Rattle.steps.specs.Steps.{place}
+use Rattle.classes.specs.Steps.{place}
 use Rattle.steps.proofs.among.Statement.{statement}
 use Rattle.steps.proofs.among.Tie as tie
 

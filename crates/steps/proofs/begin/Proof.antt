@@ -3,9 +3,9 @@ use mathlib.Core.Path.{_≡_, refl, sym, ap, ap₂, _∙_}
 use Prim.Native.Nat.{_-_, _*_}
 use native.Mathlib.Omega.{arith}
 use borrow.Author.Needs.{needs}
-use Rattle.steps.specs.Classes.{rankClass, turningRank}
-use Rattle.steps.proofs.Layouts.{bounded}
-use Rattle.steps.proofs.Ranks.{Rank, turning-rank, rankClass-le}
+use Rattle.classes.specs.Classes.{rankClass, turningRank}
+use Rattle.classes.proofs.Layouts.{bounded}
+use Rattle.classes.proofs.Ranks.{Rank, turning-rank, rankClass-le}
 use Rattle.steps.proofs.begin.Statement.{statement}
 use Rattle.steps.proofs.begin.Tie as tie
 

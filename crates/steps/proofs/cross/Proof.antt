@@ -11,10 +11,10 @@ use Rattle.shape.specs.Shape.{size}
 use Rattle.code.specs.Code.{narrow}
 use Rattle.field.specs.Residues.{minus}
 use Rattle.column.specs.Solving.{element}
-use Rattle.steps.specs.Classes.{sumAt, placeAt}
+use Rattle.classes.specs.Classes.{sumAt, placeAt}
 use Rattle.steps.specs.Storing.{sumSymbol}
-use Rattle.steps.proofs.Layouts.{share-high, ready-dead}
-use Rattle.steps.proofs.Passes.{numberAt, number-none, number-yes, number-no, Here, here, missed, sum-below}
+use Rattle.classes.proofs.Layouts.{share-high, ready-dead}
+use Rattle.classes.proofs.Passes.{numberAt, number-none, number-yes, number-no, Here, here, missed, sum-below}
 use Rattle.steps.proofs.Storing.{Crossing, crossing-none, crossing-skip, crossing-from, crossing-more}
 use Rattle.steps.proofs.cross.Statement.{statement}
 use Rattle.steps.proofs.cross.Tie as tie

@@ -8,10 +8,10 @@ use lib.ListN.{length, getD, drop, length-take, length-drop}
 use lib.Seq.{getD-take, getD-drop}
 use Rattle.lists.proofs.Buffers.{part-of}
 use Rattle.code.specs.Code.{narrow}
-use Rattle.steps.specs.Classes.{messageSize}
+use Rattle.classes.specs.Classes.{messageSize}
 use Rattle.steps.specs.Storing.{sentBy}
 use Rattle.steps.proofs.Placing.{place-below}
-use Rattle.steps.proofs.Layouts.{ready-dead}
+use Rattle.classes.proofs.Layouts.{ready-dead}
 use Rattle.steps.proofs.Storing.{crossed-sums}
 use Rattle.steps.proofs.cross_from.Statement.{statement}
 use Rattle.steps.proofs.cross_from.Tie as tie

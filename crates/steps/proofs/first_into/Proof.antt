@@ -9,12 +9,12 @@ use lib.ListN.{length}
 use Rattle.lists.specs.Lists.{flat}
 use Rattle.lists.proofs.Buffers.{onto}
 use Rattle.code.specs.Code.{narrow}
-use Rattle.steps.specs.Classes.{spot, messageSize}
-use Rattle.steps.specs.Steps.{ownPair}
+use Rattle.classes.specs.Classes.{spot, messageSize}
+use Rattle.classes.specs.Steps.{ownPair}
 use Rattle.steps.specs.Solving.{slots}
-use Rattle.steps.proofs.Ranks.{rankClass-le}
-use Rattle.steps.proofs.Layouts.{share-high, ready-dead, node-high}
-use Rattle.steps.proofs.Passes.{numberAt, number-none, number-yes, number-no, number-all, Here, here, spot-number}
+use Rattle.classes.proofs.Ranks.{rankClass-le}
+use Rattle.classes.proofs.Layouts.{share-high, ready-dead, node-high}
+use Rattle.classes.proofs.Passes.{numberAt, number-none, number-yes, number-no, number-all, Here, here, spot-number}
 use Rattle.steps.proofs.Sending.{helped-told, pairs-none, pairs-more, pairs-end, Sending, sending-none, sending-more, sent-end}
 use Rattle.steps.proofs.first_into.Statement.{statement}
 use Rattle.steps.proofs.first_into.Tie as tie

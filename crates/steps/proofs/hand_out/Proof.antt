@@ -12,9 +12,9 @@ use lib.Dec.{eqb}
 use lib.ListN.{length, getD}
 use Rattle.lists.proofs.Scatters.{Scattered, scattered-none, scattered-skip, scattered-more}
 use Rattle.column.specs.Solving.{element}
-use Rattle.steps.specs.Classes.{node, messageSize}
+use Rattle.classes.specs.Classes.{node, messageSize}
 use Rattle.steps.specs.Solving.{slotOf}
-use Rattle.steps.proofs.Layouts.{bounded, share-high, node-high}
+use Rattle.classes.proofs.Layouts.{bounded, share-high, node-high}
 use Rattle.steps.proofs.Slots.{slot-symbol-own, slots-few}
 use Rattle.steps.proofs.hand_out.Statement.{statement}
 use Rattle.steps.proofs.hand_out.Tie as tie

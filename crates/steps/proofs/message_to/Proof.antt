@@ -8,10 +8,10 @@ use lib.ListN.{length, length-set}
 use Rattle.lists.specs.Lists.{tabulate}
 use Rattle.lists.proofs.Buffers.{filled, filled-none, filled-more, filled-end}
 use Rattle.code.specs.Code.{narrow}
-use Rattle.steps.specs.Classes.{messageSize}
-use Rattle.steps.proofs.Ranks.{rankClass-le}
-use Rattle.steps.proofs.Layouts.{share-high, ready-dead}
-use Rattle.steps.proofs.Passes.{numberAt, number-none, number-yes, number-no, number-all, Here, here, messageAt, message-table, message-here}
+use Rattle.classes.specs.Classes.{messageSize}
+use Rattle.classes.proofs.Ranks.{rankClass-le}
+use Rattle.classes.proofs.Layouts.{share-high, ready-dead}
+use Rattle.classes.proofs.Passes.{numberAt, number-none, number-yes, number-no, number-all, Here, here, messageAt, message-table, message-here}
 use Rattle.steps.proofs.message_to.Statement.{statement}
 use Rattle.steps.proofs.message_to.Tie as tie
 

@@ -9,7 +9,7 @@ use lib.ListN.{length}
 use Rattle.lists.proofs.Tests.{neither}
 use Rattle.shape.specs.Shape.{size}
 use Rattle.code.specs.Code.{narrow}
-use Rattle.steps.proofs.Layouts.{ready-dead}
+use Rattle.classes.proofs.Layouts.{ready-dead}
 use Rattle.steps.proofs.Recovery.{Known, begun, skipped, crossed, recovered}
 use Rattle.steps.proofs.recover.Statement.{statement}
 use Rattle.steps.proofs.recover.Tie as tie

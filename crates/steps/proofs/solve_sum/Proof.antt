@@ -8,9 +8,9 @@ use lib.Seq.{length-take-le}
 use Rattle.lists.proofs.Others.{rising-fits}
 use Rattle.code.proofs.Accepted.{narrow-accepted}
 use Rattle.column.specs.Solving.{element}
-use Rattle.steps.specs.Classes.{node, messageSize}
+use Rattle.classes.specs.Classes.{node, messageSize}
 use Rattle.steps.specs.Solving.{MorePoints}
-use Rattle.steps.proofs.Layouts.{bounded, node-high}
+use Rattle.classes.proofs.Layouts.{bounded, node-high}
 use Rattle.steps.proofs.Solving.{sum-known, sum-solved}
 use Rattle.steps.proofs.solve_sum.Statement.{statement}
 use Rattle.steps.proofs.solve_sum.Tie as tie

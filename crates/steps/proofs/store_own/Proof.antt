@@ -4,8 +4,8 @@ use Prim.Native.Nat.{_<_}
 use native.Mathlib.Omega.{arith}
 use borrow.Author.Needs.{needs}
 use lib.ListN.{getD}
-use Rattle.steps.specs.Classes.{node}
-use Rattle.steps.proofs.Layouts.{bounded, node-high}
+use Rattle.classes.specs.Classes.{node}
+use Rattle.classes.proofs.Layouts.{bounded, node-high}
 use Rattle.steps.proofs.store_own.Statement.{statement}
 use Rattle.steps.proofs.store_own.Tie as tie
 

@@ -8,8 +8,8 @@ use borrow.Author.Tests.{not-true, not-false}
 use lib.ListN.{length, getD, length-set}
 use Rattle.shape.specs.Shape.{size}
 use Rattle.steps.specs.Storing.{sumSymbol}
-use Rattle.steps.proofs.Layouts.{share-high, ready-dead}
-use Rattle.steps.proofs.Passes.{numberAt, number-none, number-yes, number-no, Here, here, missed, sum-below}
+use Rattle.classes.proofs.Layouts.{share-high, ready-dead}
+use Rattle.classes.proofs.Passes.{numberAt, number-none, number-yes, number-no, Here, here, missed, sum-below}
 use Rattle.steps.proofs.Storing.{Pairing, pairing-none, pairing-skip, pairing-more}
 use Rattle.steps.proofs.store_pairs.Statement.{statement}
 use Rattle.steps.proofs.store_pairs.Tie as tie

@@ -1,0 +1,4 @@
+-- The definitions of a repair: classes and sums, messages, the first and the second step.
+pub mod Classes
+pub mod Layout
+pub mod Steps
