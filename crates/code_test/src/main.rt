@@ -316,7 +316,7 @@ fn subset(
     let h = mixed_symbols(number(code::restore(s, list, symbols, back)), back);
     let length = text.len();
     mixed_bytes(
-        mixed(h, number(code::open(s, list, symbols, length, text))),
+        mixed(h, number(transcript::open(s, list, symbols, length, text))),
         text,
     )
 }
@@ -333,7 +333,7 @@ fn anything(s: Shape, seed: u64, symbols: &mut [u16], back: &mut [u16], text: &m
     fill_symbols(seed, symbols);
     let h = mixed_symbols(number(code::restore(s, list, symbols, back)), back);
     let length = text.len();
-    let answer = number(code::open(s, list, symbols, length, text));
+    let answer = number(transcript::open(s, list, symbols, length, text));
     mixed_bytes(mixed(mixed_check(h, code::check(s, back)), answer), text)
 }
 
@@ -373,7 +373,7 @@ fn archive(
     text: &mut [u8],
 ) {
     fill_bytes(seed, bytes);
-    let answer = number(code::write(s, bytes, nodes));
+    let answer = number(transcript::write(s, bytes, nodes));
     print(mixed_symbols(answer, nodes));
     print(mixed_check(0, code::check(s, nodes)));
     print(subset(s, next(seed), places, nodes, symbols, back, text));
@@ -444,7 +444,7 @@ fn case(
 
 // One writing, with what it leaves in the buffer.
 fn wrote(s: Shape, bytes: &[u8], nodes: &mut [u16]) {
-    print(number(code::write(s, bytes, nodes)));
+    print(number(transcript::write(s, bytes, nodes)));
     print(mixed_symbols(0, nodes));
 }
 
@@ -512,7 +512,7 @@ fn restored(s: Shape, list: &[usize], symbols: &[u16], nodes: &mut [u16]) {
 
 // One opening, with what it leaves in the buffer.
 fn opened(s: Shape, list: &[usize], symbols: &[u16], length: usize, text: &mut [u8]) {
-    print(number(code::open(s, list, symbols, length, text)));
+    print(number(transcript::open(s, list, symbols, length, text)));
     print(mixed_bytes(0, text));
 }
 

@@ -55,10 +55,10 @@ fn tiny() -> Shape {
 // The archive of some bytes, and what opens from its node 2.
 fn print_written(bytes: &[u8], opened: &mut [u8]) {
     let mut nodes = [9u16; 24];
-    print_number(answer_number(code::write(tiny(), bytes, &mut nodes)));
+    print_number(answer_number(transcript::write(tiny(), bytes, &mut nodes)));
     print_symbols(&nodes);
     let list = [2];
-    let answer = code::open(tiny(), &list, &nodes[16..24], bytes.len(), opened);
+    let answer = transcript::open(tiny(), &list, &nodes[16..24], bytes.len(), opened);
     print_number(answer_number(answer));
     print_bytes(opened);
 }
@@ -75,7 +75,7 @@ fn lose(size: usize, nodes: &mut [u16]) {
 // The archive of the bytes 3 6 with node 0 dead, repaired by nodes 1 and 2.
 fn print_repaired() {
     let mut nodes = [0u16; 24];
-    code::write(tiny(), &[3u8, 6], &mut nodes);
+    transcript::write(tiny(), &[3u8, 6], &mut nodes);
     lose(8, &mut nodes);
     let mut wire = [9u16; 8];
     let dead = [0];
@@ -88,7 +88,7 @@ fn print_repaired() {
 // Its card for node 1.
 fn print_card() {
     let mut nodes = [0u16; 24];
-    code::write(tiny(), &[3u8, 6], &mut nodes);
+    transcript::write(tiny(), &[3u8, 6], &mut nodes);
     let shape = tiny();
     let header = Header {
         shape,
@@ -118,7 +118,7 @@ fn print_unpacked(b: u8, c: u8) {
 fn print_no_transcript() {
     let mut opened = [9u8; 1];
     let list = [1];
-    let answer = code::open(tiny(), &list, &[87u16, 0, 0, 0, 0, 0, 0, 0], 1, &mut opened);
+    let answer = transcript::open(tiny(), &list, &[87u16, 0, 0, 0, 0, 0, 0, 0], 1, &mut opened);
     print_number(answer_number(answer));
     print_bytes(&opened);
 }

@@ -1,8 +1,8 @@
--- `code::data_fits` meets its contract: within the length, or beyond it. Assumes nothing.
+-- `transcript::data_fits` meets its contract: within the length, or beyond it. Assumes nothing.
 use borrow.Author.Tests.{lt-ltb, le-ltb}
 use Rattle.code.specs.Steps.{dataFits}
-use Rattle.code.proofs.data_fits.Statement.{statement}
-use Rattle.code.proofs.data_fits.Tie as tie
+use Rattle.transcript.proofs.data_fits.Statement.{statement}
+use Rattle.transcript.proofs.data_fits.Tie as tie
 
 returns : tie.Need-returns
 unfolding dataFits

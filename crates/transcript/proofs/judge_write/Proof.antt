@@ -1,4 +1,4 @@
--- `code::judge_write` meets its contract: the causes in turn. Assumes nothing.
+-- `transcript::judge_write` meets its contract: the causes in turn. Assumes nothing.
 use mathlib.Core.Path.{_≡_, sym, _∙_}
 use mathlib.Core.Bool.{false}
 use native.Mathlib.Omega.{arith}
@@ -6,9 +6,9 @@ use native.Mathlib.Nat.{mul-le-mul}
 use borrow.Author.Needs.{needs}
 use Rattle.shape.specs.Refusals.{shapeBad, wrongLength}
 use Rattle.shape.proofs.Accepted.{shape-accepted}
 use Rattle.code.specs.Refusals.{writeRefusal}
-use Rattle.code.proofs.judge_write.Statement.{statement}
-use Rattle.code.proofs.judge_write.Tie as tie
+use Rattle.transcript.proofs.judge_write.Statement.{statement}
+use Rattle.transcript.proofs.judge_write.Tie as tie
 
 returns : tie.Need-returns
 unfolding writeRefusal

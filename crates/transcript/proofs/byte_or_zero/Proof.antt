@@ -1,10 +1,10 @@
--- `code::byte_or_zero` meets its contract: behind the end stands the definition's 0. Assumes nothing.
+-- `transcript::byte_or_zero` meets its contract: behind the end stands the definition's 0. Assumes nothing.
 use mathlib.Core.Path.{sym}
 use native.Mathlib.Omega.{arith}
 use borrow.Author.Needs.{needs}
 use lib.ListN.{List·getD-eq-default}
-use Rattle.code.proofs.byte_or_zero.Statement.{statement}
-use Rattle.code.proofs.byte_or_zero.Tie as tie
+use Rattle.transcript.proofs.byte_or_zero.Statement.{statement}
+use Rattle.transcript.proofs.byte_or_zero.Tie as tie
 
 cast-result : tie.Need-cast-result
 cast-result c = omega (arith, c .shared-slice-known .given (c .before .before .args .b))

@@ -1,4 +1,4 @@
--- `code::judge_data` meets its contract: at the places passed all data symbols fit. Assumes nothing.
+-- `transcript::judge_data` meets its contract: at the places passed all data symbols fit. Assumes nothing.
 use mathlib.Core.Path.{_≡_, sym}
 use Prim.Native.Nat.{ℕ, _-_, _≤_, _<_}
 use native.Mathlib.Omega.{arith}
@@ -7,13 +7,13 @@ use borrow.Author.Tests.{not-true, not-false}
 use lib.ListN.{getD}
 use Rattle.shape.specs.Shape.{size}
 use Rattle.shape.proofs.Accepted.{shape-accepted}
 use Rattle.code.specs.Code.{narrow}
 use Rattle.code.specs.Archive.{restoredColumn}
 use Rattle.code.proofs.Accepted.{Openable, open-accepted}
 use Rattle.code.proofs.Restoring.{never}
 use Rattle.code.proofs.Opening.{FitTo, fit-more, fit-end, fit-fails}
-use Rattle.code.proofs.judge_data.Statement.{statement}
-use Rattle.code.proofs.judge_data.Tie as tie
+use Rattle.transcript.proofs.judge_data.Statement.{statement}
+use Rattle.transcript.proofs.judge_data.Tie as tie
 
 abbrev Inv-loop : tie.InvT-loop
 Inv-loop s list symbols length k places place₀ place =

@@ -1,4 +1,4 @@
--- `code::store_bytes` meets its contract: one row after the other, as far as the transcript goes. Assumes nothing.
+-- `transcript::store_bytes` meets its contract: one row after the other, as far as the transcript goes. Assumes nothing.
 use mathlib.Core.Path.{_≡_, refl}
 use Prim.Native.Nat.{_+_, _-_, _*_, _≤_, _<_}
 use native.Mathlib.Nat.{mul-le-mul}
@@ -8,8 +8,8 @@ use lib.Arith.{digits-lt}
 use lib.ListN.{length}
 use Rattle.lists.specs.Rows.{Placed}
 use Rattle.lists.proofs.Rows.{placed-none, placed-more, placed-skip}
-use Rattle.code.proofs.store_bytes.Statement.{statement}
-use Rattle.code.proofs.store_bytes.Tie as tie
+use Rattle.transcript.proofs.store_bytes.Statement.{statement}
+use Rattle.transcript.proofs.store_bytes.Tie as tie
 
 abbrev Inv-loop : tie.InvT-loop
 Inv-loop k size place transcript₀ column j₀ transcript j = (j ≤ k) × Placed j size place column transcript₀ transcript

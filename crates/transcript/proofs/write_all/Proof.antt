@@ -1,4 +1,4 @@
--- `code::write_all` meets its contract: at the places passed the nodes hold the written columns. Assumes nothing.
+-- `transcript::write_all` meets its contract: at the places passed the nodes hold the written columns. Assumes nothing.
 use mathlib.Core.Path.{_≡_, refl, sym, _∙_}
 use Prim.Native.Nat.{_-_, _≤_, _<_}
 use native.Mathlib.Omega.{arith}
@@ -11,14 +11,14 @@ use Rattle.lists.proofs.Tables.{range-length}
 use Rattle.lists.proofs.Rows.{columns-none}
 use Rattle.shape.specs.Shape.{size, byteValues, mostNodes}
 use Rattle.shape.proofs.Accepted.{shape-accepted}
 use Rattle.code.specs.Code.{narrow}
 use Rattle.code.specs.Archive.{written}
 use Rattle.code.proofs.Written.{padding, padded-length, written-given}
 use Rattle.code.proofs.Accepted.{WriteAccepted, write-accepted}
 use Rattle.code.proofs.Restoring.{never, gathered-placing, RestoredTo, restored-more, restored-end}
 use Rattle.code.proofs.Writing.{first-nodes, gathered-padding}
-use Rattle.code.proofs.write_all.Statement.{statement}
-use Rattle.code.proofs.write_all.Tie as tie
+use Rattle.transcript.proofs.write_all.Statement.{statement}
+use Rattle.transcript.proofs.write_all.Tie as tie
 
 abbrev Inv-loop : tie.InvT-loop
 Inv-loop s transcript nodes₀ k places all place₀ nodes place =

@@ -1,18 +1,18 @@
--- `code::open` meets its contract: turned back by either judging, or opened. Assumes nothing.
+-- `transcript::open` meets its contract: turned back by either judging, or opened. Assumes nothing.
 use mathlib.Core.Path.{_≡_, sym, ap, _∙_}
 use native.Mathlib.Omega.{arith}
 use borrow.Author.Needs.{needs}
 use lib.ListN.{length, take}
 use Rattle.shape.specs.Refusals.{answerNumber}
 use Rattle.shape.proofs.Answers.{number-positive}
 use Rattle.code.specs.Code.{narrow}
 use Rattle.code.specs.Archive.{dataOf}
 use Rattle.code.specs.Refusals.{openInputRefusal, openRefusal}
 use Rattle.code.proofs.Accepted.{Openable, open-accepted, open-turned}
 use Rattle.code.proofs.Opening.{taken-length}
 use Rattle.code.proofs.Promised.{opens-refused, opens-done}
-use Rattle.code.proofs.open.Statement.{statement}
-use Rattle.code.proofs.open.Tie as tie
+use Rattle.transcript.proofs.open.Statement.{statement}
+use Rattle.transcript.proofs.open.Tie as tie
 
 returns : tie.Need-returns
 unfolding openRefusal

@@ -1,4 +1,4 @@
--- `code::open_all` meets its contract: at the places passed the transcript holds the restored data symbols. Assumes nothing.
+-- `transcript::open_all` meets its contract: at the places passed the transcript holds the restored data symbols. Assumes nothing.
 use mathlib.Core.Path.{_≡_, refl, sym, _∙_, subst}
 use Prim.Native.Nat.{ℕ, _-_, _≤_, _<_}
 use native.Mathlib.Omega.{arith}
@@ -7,14 +7,14 @@ use lib.ListN.{length, getD}
 use Rattle.lists.proofs.Rows.{Columns, columns-none, columns-more}
 use Rattle.shape.specs.Shape.{size, byteValues}
 use Rattle.shape.proofs.Accepted.{Shaped, shape-accepted}
 use Rattle.code.specs.Code.{narrow}
 use Rattle.code.specs.Archive.{restoredColumn}
 use Rattle.code.specs.Refusals.{openInputRefusal, dataRefusal, openRefusal}
 use Rattle.code.proofs.Accepted.{Openable, open-accepted, open-passed}
 use Rattle.code.proofs.Restoring.{never}
 use Rattle.code.proofs.Opening.{byte-small, opened-end}
-use Rattle.code.proofs.open_all.Statement.{statement}
-use Rattle.code.proofs.open_all.Tie as tie
+use Rattle.transcript.proofs.open_all.Statement.{statement}
+use Rattle.transcript.proofs.open_all.Tie as tie
 
 abbrev Inv-loop : tie.InvT-loop
 Inv-loop s list symbols transcript₀ k places place₀ transcript place =

@@ -1,4 +1,4 @@
--- `code::write` meets its contract: turned back by the judging, or written. Assumes nothing.
+-- `transcript::write` meets its contract: turned back by the judging, or written. Assumes nothing.
 use mathlib.Core.Path.{_≡_, sym, ap, _∙_}
 use mathlib.Core.Bool.{true}
 use native.Mathlib.Omega.{arith}
@@ -8,13 +8,13 @@ use Rattle.lists.specs.Lists.{all, below}
 use Rattle.lists.proofs.Tests.{at-all-below}
 use Rattle.shape.specs.Shape.{byteValues}
 use Rattle.shape.specs.Refusals.{answerNumber}
 use Rattle.code.specs.Code.{narrow}
 use Rattle.code.specs.Refusals.{writeRefusal}
 use Rattle.code.proofs.Written.{written-codeword}
 use Rattle.code.proofs.Accepted.{write-accepted}
 use Rattle.code.proofs.Promised.{writes-refused, writes-done}
-use Rattle.code.proofs.write.Statement.{statement}
-use Rattle.code.proofs.write.Tie as tie
+use Rattle.transcript.proofs.write.Statement.{statement}
+use Rattle.transcript.proofs.write.Tie as tie
 
 -- the judging found no cause
 accepted : (c : tie.After-enum-told) →

@@ -1,4 +1,4 @@
--- `code::column_fits` meets its contract: all data symbols passed may be what they are. Assumes nothing.
+-- `transcript::column_fits` meets its contract: all data symbols passed may be what they are. Assumes nothing.
 use mathlib.Core.Path.{_≡_, sym, _∙_}
 use mathlib.Core.Bool.{true, true≢false, false≢true}
 use Prim.Native.Nat.{ℕ, _+_, _-_, _*_, _≤_, _<_}
@@ -9,9 +9,9 @@ use borrow.Author.Count.{below-more}
 use borrow.Author.Tests.{not-true, not-false}
 use lib.Arith.{digits-lt}
 use lib.ListN.{getD}
 use Rattle.code.specs.Steps.{dataFits}
-use Rattle.code.proofs.column_fits.Statement.{statement}
-use Rattle.code.proofs.column_fits.Tie as tie
+use Rattle.transcript.proofs.column_fits.Statement.{statement}
+use Rattle.transcript.proofs.column_fits.Tie as tie
 
 abbrev Inv-loop : tie.InvT-loop
 Inv-loop k size place length column j₀ j = (j ≤ k) × ((i : ℕ) → i < j → dataFits length (i * size + place) (getD column i 0) ≡ true)

@@ -1,4 +1,4 @@
--- `code::bytes_at` meets its contract: an entry for each node, stored by its index. Assumes nothing.
+-- `transcript::bytes_at` meets its contract: an entry for each node, stored by its index. Assumes nothing.
 use mathlib.Core.Path.{_≡_}
 use Prim.Native.Nat.{ℕ, _+_, _-_, _*_, _≤_, _<_}
 use native.Mathlib.Nat.{mul-le-mul}
@@ -8,8 +8,8 @@ use lib.Arith.{digits-lt}
 use lib.ListN.{length, getD, length-set}
 use Rattle.lists.proofs.Stores.{stored-more}
 use Rattle.shape.specs.Shape.{mostNodes}
-use Rattle.code.proofs.bytes_at.Statement.{statement}
-use Rattle.code.proofs.bytes_at.Tie as tie
+use Rattle.transcript.proofs.bytes_at.Statement.{statement}
+use Rattle.transcript.proofs.bytes_at.Tie as tie
 
 abbrev Inv-loop : tie.InvT-loop
 Inv-loop transcript count size place out₀ j₀ out j =

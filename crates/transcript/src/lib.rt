@@ -1,0 +1,221 @@
+// Transcripts: written into the n nodes of an archive, and opened from any k of them (demand 2).
+use code::MODULUS;
+use code::restore_place;
+use code::restored_at;
+use column::Outcome;
+use shape::Answer;
+use shape::MOST_NODES;
+use shape::Refusal;
+use shape::Shape;
+use shape::nodes_bad;
+use shape::shape_bad;
+use shape::size;
+use shape::symbol_bad;
+ghost use mathlib.Core.Path.{_≡_};
+ghost use Prim.Native.Nat.{_*_, _^_, _≤_, _<_};
+ghost use lib.ListN.{length, getD, take};
+ghost use Rattle.lists.specs.Rows.{Placed};
+ghost use Rattle.shape.specs.Shape.{mostNodes, mostLayers};
+ghost use Rattle.shape.specs.Refusals.{answerNumber};
+ghost use Rattle.code.specs.Code.{narrow};
+ghost use Rattle.code.specs.Archive.{written, dataOf};
+ghost use Rattle.code.specs.Refusals.{writeRefusal, openInputRefusal, dataRefusal, openRefusal};
+ghost use Rattle.code.specs.Steps.{Gathered, dataFits, ColumnFits, DataColumn};
+ghost use Rattle.code.specs.Promises.{Writes, Opens};
+
+// Byte number b of a transcript, and 0 behind the last.
+fn byte_or_zero(transcript: &[u8], b: usize) -> u32
+    ensures { λ r. ⌜ r ≡ getD (now (transcript .entry)) b 0 ⌝ }
+{
+    if b < transcript.len() {
+        transcript[b] as u32
+    } else {
+        0
+    }
+}
+
+// What `count` data nodes of `size` symbols hold at a place: "Transcript byte number b stands on node b div N at place b mod N."
+fn bytes_at(transcript: &[u8], count: usize, size: usize, place: usize) -> [u32; MOST_NODES]
+    requires { ⌜ (count ≤ mostNodes) × (size ≤ mostLayers * 2 ^ mostNodes) × (place < size) ⌝ }
+    ensures { λ out. ⌜ Gathered count size place (now (transcript .entry)) out ⌝ }
+{
+    let mut out = [0u32; MOST_NODES];
+    for j in 0..count {
+        out[j] = byte_or_zero(transcript, j * size + place);
+    }
+    out
+}
+
+// The node numbers, of which the first k are the data nodes.
+const NODES: [usize; MOST_NODES] = [0, 1, 2, 3, 4, 5, 6, 7, 8, 9, 10, 11];
+
+// Causes 1 and 4 of writing into a buffer of `room` symbols, in this order.
+fn judge_write(s: Shape, transcript: &[u8], room: usize) -> Answer
+    ensures { λ r. ⌜ answerNumber r ≡ writeRefusal s (now (transcript .entry)) room ⌝ }
+{
+    if shape_bad(s) {
+        return Answer::Refused(Refusal::BadShape);
+    }
+    let n = s.n;
+    let k = s.k;
+    let places = size(s);
+    if (k * places < transcript.len()) | (room != n * places) {
+        return Answer::Refused(Refusal::WrongLength);
+    }
+    Answer::Done
+}
+
+// All n nodes from the data nodes, a place at a time.
+fn write_all(s: Shape, transcript: &[u8], nodes: &mut [u16]) -> Answer
+    requires { ⌜ writeRefusal s (now transcript) (length (now nodes)) ≡ 0 ⌝ }
+    ensures { λ answer. ⌜ (answer ≡ Answer.Done) × (now (nodes .exit) ≡ written narrow s (now (transcript .entry))) ⌝ }
+{
+    let k = s.k;
+    let each = size(s);
+    let all = NODES;
+    for place in 0..each {
+        let values = bytes_at(transcript, k, each, place);
+        let Outcome::Solved = restore_place(s, place, &all[..k], values, nodes) else {
+            return Answer::Refused(Refusal::ZeroDivisor);
+        };
+    }
+    Answer::Done
+}
+
+// The archive of a transcript.
+pub fn write(s: Shape, transcript: &[u8], nodes: &mut [u16]) -> Answer
+    ensures { λ answer. ⌜ Writes s (now (transcript .entry)) (now (nodes .entry)) (now (nodes .exit)) answer ⌝ }
+{
+    match judge_write(s, transcript, nodes.len()) {
+        Answer::Refused(cause) => Answer::Refused(cause),
+        Answer::Done => write_all(s, transcript, nodes),
+    }
+}
+
+// Causes 1, 2, 4 and 5 of opening into a buffer of `room` bytes, in this order.
+fn judge_open(s: Shape, list: &[usize], symbols: &[u16], length: usize, room: usize) -> Answer
+    ensures { λ r. ⌜ answerNumber r ≡ openInputRefusal narrow s (now (list .entry)) (now (symbols .entry)) length room 0 ⌝ }
+{
+    if shape_bad(s) {
+        return Answer::Refused(Refusal::BadShape);
+    }
+    let n = s.n;
+    let k = s.k;
+    if nodes_bad(n, k, list) {
+        return Answer::Refused(Refusal::BadNodes);
+    }
+    let due = k * size(s);
+    if (symbols.len() != due) | (due < length) | (room != length) {
+        return Answer::Refused(Refusal::WrongLength);
+    }
+    if symbol_bad(MODULUS, symbols) {
+        return Answer::Refused(Refusal::BadSymbol);
+    }
+    Answer::Done
+}
+
+// Whether data symbol e may be x: not "a data symbol within the length is 256, or one beyond it is not 0".
+fn data_fits(length: usize, e: usize, x: u32) -> bool
+    ensures { λ r. ⌜ r ≡ dataFits length e x ⌝ }
+{
+    if e < length { x < 256 } else { x == 0 }
+}
+
+// Whether all data symbols of a column may be what they are.
+fn column_fits(
+    k: usize,
+    size: usize,
+    place: usize,
+    length: usize,
+    column: [u32; MOST_NODES],
+) -> bool
+    requires { ⌜ (k ≤ mostNodes) × (size ≤ mostLayers * 2 ^ mostNodes) × (place < size) ⌝ }
+    ensures { λ fit. ⌜ ColumnFits k size place length column fit ⌝ }
+{
+    for j in 0..k {
+        if !data_fits(length, j * size + place, column[j]) {
+            return false;
+        }
+    }
+    true
+}
+
+// Causes 8 and 7 of opening, of which the first never holds. The data symbols are worked out a place at a time, and not kept.
+fn judge_data(s: Shape, list: &[usize], symbols: &[u16], length: usize) -> Answer
+    requires { ⌜ openInputRefusal narrow s (now list) (now symbols) length length 0 ≡ 0 ⌝ }
+    ensures { λ r. ⌜ answerNumber r ≡ dataRefusal narrow s (now (list .entry)) (now (symbols .entry)) length ⌝ }
+{
+    let k = s.k;
+    let places = size(s);
+    for place in 0..places {
+        let column = restored_at(s, list, symbols, place);
+        let outcome = column.outcome;
+        let held = column.symbols;
+        let Outcome::Solved = outcome else {
+            return Answer::Refused(Refusal::ZeroDivisor);
+        };
+        if !column_fits(k, places, place, length, held) {
+            return Answer::Refused(Refusal::NoTranscript);
+        }
+    }
+    Answer::Done
+}
+
+// The data symbols of a column stored as bytes, as far as the transcript goes.
+fn store_bytes(
+    k: usize,
+    size: usize,
+    place: usize,
+    column: [u32; MOST_NODES],
+    transcript: &mut [u8],
+)
+    requires { ⌜ DataColumn k size place column (now transcript) ⌝ }
+    ensures { λ _. ⌜ Placed k size place column (now (transcript .entry)) (now (transcript .exit)) ⌝ }
+{
+    for j in 0..k {
+        let b = j * size + place;
+        if transcript.len() <= b {
+            continue;
+        }
+        transcript[b] = column[j] as u8;
+    }
+}
+
+// The bytes of a transcript, a place at a time.
+fn open_all(s: Shape, list: &[usize], symbols: &[u16], transcript: &mut [u8]) -> Answer
+    requires { ⌜ openRefusal narrow s (now list) (now symbols) (length (now transcript)) (length (now transcript)) ≡ 0 ⌝ }
+    ensures { λ answer. ⌜ (answer ≡ Answer.Done) × (now (transcript .exit) ≡ take (length (now (transcript .entry))) (dataOf narrow s (now (list .entry)) (now (symbols .entry)))) ⌝ }
+{
+    let k = s.k;
+    let places = size(s);
+    for place in 0..places {
+        let column = restored_at(s, list, symbols, place);
+        let outcome = column.outcome;
+        let held = column.symbols;
+        let Outcome::Solved = outcome else {
+            return Answer::Refused(Refusal::ZeroDivisor);
+        };
+        store_bytes(k, places, place, held, transcript);
+    }
+    Answer::Done
+}
+
+// The transcript of `length` bytes from any k nodes.
+pub fn open(
+    s: Shape,
+    list: &[usize],
+    symbols: &[u16],
+    length: usize,
+    transcript: &mut [u8],
+) -> Answer
+    ensures { λ answer. ⌜ Opens s (now (list .entry)) (now (symbols .entry)) length (now (transcript .entry)) (now (transcript .exit)) answer ⌝ }
+{
+    match judge_open(s, list, symbols, length, transcript.len()) {
+        Answer::Refused(cause) => return Answer::Refused(cause),
+        Answer::Done => {}
+    }
+    match judge_data(s, list, symbols, length) {
+        Answer::Refused(cause) => Answer::Refused(cause),
+        Answer::Done => open_all(s, list, symbols, transcript),
+    }
+}
