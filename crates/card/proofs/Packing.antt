@@ -13,7 +13,7 @@ use Rattle.shape.specs.Refusals.{numberOf}
 use Rattle.shape.proofs.Answers.{afterwards-done, afterwards-refused}
 use Rattle.card.specs.declared.Header.{Header}
 use Rattle.card.specs.declared.Packed.the-variants.{Card, Refused}
-use Rattle.card.specs.Numbers.{mostGroups, groupValues, numeral}
+use Rattle.numbers.specs.Numbers.{mostGroups, groupValues, numeral}
 use Rattle.card.specs.Cards.{headerNumbers, cardBytes, packRefusal}
 use Rattle.card.specs.Promises.{symbolValues, over, Packs}
 use Rattle.card.proofs.Judging.{pack-accepted}

@@ -12,10 +12,10 @@ use Rattle.lists.proofs.Tests.{below-or-not}
 use Rattle.lists.proofs.Scans.{drop-next}
 use Rattle.shape.specs.declared.Refusal.the-variants as refusal
 use Rattle.card.specs.declared.Front.the-variants as front
-use Rattle.card.specs.declared.Number.the-variants.{Read, Malformed}
-use Rattle.card.specs.Numbers.{mostGroups, Found, value, malformed, readNumber, Numbers, values, broken, andThen, thenNumbers, numberAt, readNumbers}
+use Rattle.numbers.specs.declared.Number.the-variants.{Read, Malformed}
+use Rattle.numbers.specs.Numbers.{mostGroups, Found, value, malformed, readNumber, Numbers, values, broken, andThen, thenNumbers, numberAt, readNumbers}
 use Rattle.card.specs.Cards.{headerOf, headerCount, Symbols, bad, got, symbolsNumber, symbolsRead, andSymbol, atEnd, thenSymbols, readSymbols, frontOf}
-use Rattle.card.proofs.Places.{number-bad, number-read, number-inside}
+use Rattle.numbers.proofs.Places.{number-bad, number-read, number-inside}
 
 -- ---- the header
 

@@ -11,16 +11,16 @@ use Rattle.lists.specs.Lists.{all, below}
 use Rattle.shape.specs.Shape.{size, byteValues}
 use Rattle.shape.proofs.Answers.{number-positive, afterwards-done}
 use Rattle.card.specs.declared.Header.{Header}
-use Rattle.card.specs.declared.Number.the-variants.{Read}
+use Rattle.numbers.specs.declared.Number.the-variants.{Read}
 use Rattle.card.specs.declared.Packed.{Packed}
 use Rattle.card.specs.declared.Packed.the-variants as pack
 use Rattle.card.specs.declared.Unpacked.{Unpacked}
 use Rattle.card.specs.declared.Unpacked.the-variants as unpack
-use Rattle.card.specs.Numbers.{mostGroups, groupValues, numeral, readNumber, placed, numberAt}
+use Rattle.numbers.specs.Numbers.{mostGroups, groupValues, numeral, readNumber, placed, numberAt}
 use Rattle.card.specs.Cards.{cardBytes, cardRoom, packRefusal, card, unpacked}
 use Rattle.card.specs.Promises.{symbolValues, over, Packs, readingOf, Unpacks}
-use Rattle.card.proofs.Numbers.{read-numeral, number-unique, all-behind}
-use Rattle.card.proofs.Places.{number-read}
+use Rattle.numbers.proofs.Numbers.{read-numeral, number-unique, all-behind}
+use Rattle.numbers.proofs.Places.{number-read}
 use Rattle.card.proofs.Cards.{unpack-packed, pack-unpacked}
 
 -- ---- numbers

@@ -17,11 +17,11 @@ use Rattle.shape.proofs.Answers.{number-positive}
 use Rattle.card.specs.declared.Header.{Header}
 use Rattle.card.specs.declared.Front.the-variants as front
 use Rattle.card.specs.declared.Unpacked.the-variants as unpack
-use Rattle.card.specs.Numbers.{mostGroups, Found, value, malformed, readNumber, Numbers, values, broken, andThen, thenNumbers, readNumbers}
+use Rattle.numbers.specs.Numbers.{mostGroups, Found, value, malformed, readNumber, Numbers, values, broken, andThen, thenNumbers, readNumbers}
 use Rattle.card.specs.Cards.{headerOf, headerCount, headerRefusal, Symbols, bad, got, symbolsNumber, symbolsRead, readSymbols, refused, card, judged, withHeader, unpacked, frontOf}
 use Rattle.card.specs.Promises.{symbolValues, readingNumber, readingSymbols, Unpacks}
 use Rattle.card.proofs.Judging.{header-accepted}
-use Rattle.card.proofs.Places.{read-behind}
+use Rattle.numbers.proofs.Places.{read-behind}
 use Rattle.card.proofs.Reading.{symbols-good}
 
 -- ---- the place behind the header

@@ -2,7 +2,7 @@
 // of the buffer lent to it, goes into the line's digest; behind it stand how often each number was answered, 0 to 8.
 // The stored output is written by another program, from document 01 alone: python3 tests/card_expected.py > crates/card_test/stdout
 use card::Header;
-use card::Number;
+use numbers::Number;
 use card::Packed;
 use card::Unpacked;
 use libc::STDOUT_FILENO;
@@ -219,7 +219,7 @@ fn headed(t: Tally, i: usize) -> Tally {
 }
 
 fn read(t: Tally, bytes: &[u8], at: usize) -> Tally {
-    match card::read_number(bytes, at) {
+    match numbers::read_number(bytes, at) {
         Number::Read { value, next } => mixed(mixed(counted(t, 0), value), next),
         Number::Malformed => counted(t, 6),
     }

@@ -15,7 +15,7 @@ use Rattle.shape.specs.declared.Refusal.{Refusal}
 use Rattle.shape.specs.declared.Refusal.the-variants as refusal
 use Rattle.shape.specs.Refusals.{numberOf}
 use Rattle.shape.proofs.Answers.{number-positive}
-use Rattle.card.specs.Numbers.{Numbers, values, broken, readNumbers}
+use Rattle.numbers.specs.Numbers.{Numbers, values, broken, readNumbers}
 use Rattle.plan.specs.declared.Behind.{Behind}
 use Rattle.plan.specs.declared.Behind.the-variants as behind
 use Rattle.plan.specs.Plan.{line, planText, textOr, leftOver, listsNumber, withNodes, withLists, shapeNumber, withShape, withFront, frontCount, printed}

@@ -7,9 +7,9 @@ use native.Mathlib.Nat.{sub-zero}
 use native.Mathlib.Omega.{arith}
 use lib.ListN.{length, set, take, drop, length-set}
 use lib.Seq.{take-suc-set, take-all}
-use Rattle.card.specs.declared.Number.the-variants.{Read, Malformed}
-use Rattle.card.specs.Numbers.{mostGroups, thenNumbers, numberAt, readNumbers}
-use Rattle.card.proofs.Places.{number-bad, number-read}
+use Rattle.numbers.specs.declared.Number.the-variants.{Read, Malformed}
+use Rattle.numbers.specs.Numbers.{mostGroups, thenNumbers, numberAt, readNumbers}
+use Rattle.numbers.proofs.Places.{number-bad, number-read}
 use Rattle.card.proofs.Reading.{ahead, ahead-none, ahead-one, ahead-broken, ahead-values}
 use Rattle.plan.specs.declared.Behind.the-variants as behind
 use Rattle.plan.specs.Promises.{numbersOf}

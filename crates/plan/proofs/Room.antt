@@ -18,7 +18,7 @@ use Rattle.shape.specs.Shape.{mostNodes, mostLayers, size, within}
 use Rattle.shape.specs.Refusals.{numberOf, refuse, shapeBad, repairBad, layersBad}
 use Rattle.shape.proofs.Accepted.{passed, Shaped, shape-accepted, Repairable, repair-accepted}
 use Rattle.classes.specs.Classes.{batch, node, messageSize}
-use Rattle.card.specs.Numbers.{Numbers, values, broken, readNumbers}
+use Rattle.numbers.specs.Numbers.{Numbers, values, broken, readNumbers}
 use Rattle.plan.specs.Plan.{helperTransfer, deadTransfer, transfers, noTransfer, line, transferLine, total, planText, textOr, listsNumber, withNodes, withLists, shapeNumber, withShape, withFront, leftOver, frontCount, printed, mostTransfers, lineRoom, totalRoom, planRoom}
 use Rattle.plan.specs.Promises.{Few, Plannable, Puts}
 use Rattle.plan.proofs.Puts.{puts-next, puts-last, puts-room}

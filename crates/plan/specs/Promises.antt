@@ -9,7 +9,7 @@ use lib.Seq.{sets}
 use Rattle.shape.specs.declared.Shape.{Shape}
 use Rattle.shape.specs.Shape.{mostNodes}
 use Rattle.shape.specs.Refusals.{numberOf, refuse, afterwards, shapeBad, repairBad}
-use Rattle.card.specs.Numbers.{Numbers, values, broken}
+use Rattle.numbers.specs.Numbers.{Numbers, values, broken}
 use Rattle.card.specs.Promises.{over}
 use Rattle.plan.specs.declared.Behind.{Behind}
 use Rattle.plan.specs.declared.Behind.the-variants as behind

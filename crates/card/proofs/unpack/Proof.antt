@@ -4,7 +4,7 @@ use borrow.Author.Needs.{needs}
 use lib.ListN.{length}
 use Rattle.shape.specs.Refusals.{answerNumber}
 use Rattle.card.specs.declared.Front.the-variants.{Read}
-use Rattle.card.specs.Numbers.{readNumbers}
+use Rattle.numbers.specs.Numbers.{readNumbers}
 use Rattle.card.specs.Cards.{headerCount, frontOf}
 use Rattle.card.proofs.Unpacking.{unpacks-broken, unpacks-header, unpacks-symbols, unpacks-done}
 use Rattle.card.proofs.unpack.Statement.{statement}

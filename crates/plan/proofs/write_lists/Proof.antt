@@ -5,7 +5,7 @@ use native.Mathlib.Omega.{arith}
 use borrow.Author.Needs.{needs}
 use lib.ListN.{drop, replicate}
 use Rattle.shape.specs.Shape.{mostNodes}
-use Rattle.card.specs.Numbers.{readNumbers}
+use Rattle.numbers.specs.Numbers.{readNumbers}
 use Rattle.plan.specs.Plan.{withLists}
 use Rattle.plan.proofs.Room.{shape-passed}
 use Rattle.plan.proofs.Exits.{puts-as, front-length}

@@ -3,7 +3,7 @@ use mathlib.Core.Path.{_≡_, refl, sym, ap, _∙_}
 use borrow.Author.Needs.{needs}
 use lib.ListN.{drop}
 use Rattle.shape.specs.Refusals.{answerNumber}
-use Rattle.card.specs.Numbers.{values, readNumbers}
+use Rattle.numbers.specs.Numbers.{values, readNumbers}
 use Rattle.plan.specs.Plan.{frontCount}
 use Rattle.plan.proofs.Exits.{puts-as, read-bad, read-good, front-bad, front-refused, front-passed}
 use Rattle.plan.proofs.write_text.Statement.{statement}

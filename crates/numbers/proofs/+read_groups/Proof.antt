@@ -1,18 +1,18 @@
--- `card::read_groups` meets its contract: a group at a time, as the definition reads them. Each call has one group less to read.
+-- `numbers::read_groups` meets its contract: a group at a time, as the definition reads them. Each call has one group less to read.
 use mathlib.Core.Path.{sym, _∙_}
 use Prim.Native.Nat.{ℕ, _<_}
 use native.Mathlib.Omega.{arith}
 use borrow.Author.Needs.{needs}
 use borrow.Fn.Kinds.{In}
 use borrow.Fn.PlainCycle.{Measures, is, falls, and}
-use Rattle.card.specs.Numbers.{mostGroups}
-use Rattle.card.proofs.Places.{at-none, at-cut, at-one, at-bad, at-zero, at-more, number-fits}
-use Rattle.card.proofs.read_groups.Reads as read-groups
-use Rattle.card.proofs.read_groups.Kinds as read-groups-kinds
-use Rattle.card.proofs.+read_groups.Lts-read_groups as lts
-use Rattle.card.proofs.wide.Reads as wide-reads
-use Rattle.card.proofs.+read_groups.{statement}
-use Rattle.card.proofs.+read_groups.Tie.{close}
+use Rattle.numbers.specs.Numbers.{mostGroups}
+use Rattle.numbers.proofs.Places.{at-none, at-cut, at-one, at-bad, at-zero, at-more, number-fits}
+use Rattle.numbers.proofs.read_groups.Reads as read-groups
+use Rattle.numbers.proofs.read_groups.Kinds as read-groups-kinds
+use Rattle.numbers.proofs.+read_groups.Lts-read_groups as lts
+use Rattle.numbers.proofs.wide.Reads as wide-reads
+use Rattle.numbers.proofs.+read_groups.{statement}
+use Rattle.numbers.proofs.+read_groups.Tie.{close}
 
 abbrev μ-read-groups : Measures 1 read-groups-kinds.ps ℕ
 μ-read-groups κs a = a .1 .1 .0

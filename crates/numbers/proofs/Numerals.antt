@@ -7,7 +7,7 @@ use lib.ListN.{length, getD, drop, drop-of-length-le, length-append}
 use lib.Seq.{sets}
 use Rattle.lists.proofs.Scans.{drop-next}
 use Rattle.lists.proofs.Writing.{Writing, writing-all, writing-piece, writing-room, writing-end}
-use Rattle.card.specs.Numbers.{mostGroups, numeral}
+use Rattle.numbers.specs.Numbers.{mostGroups, numeral}
 
 -- the numerals of vs are written over `old` from a place on, and those from number i on are still to come
 abbrev pub Numerals : List ℕ → List ℕ → ℕ → ℕ → List ℕ → ℕ → Type 0

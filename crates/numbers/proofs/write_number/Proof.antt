@@ -1,14 +1,14 @@
--- `card::write_number` meets its contract: the numeral of the rest is still to be written, at the place.
+-- `numbers::write_number` meets its contract: the numeral of the rest is still to be written, at the place.
 use mathlib.Core.Path.{refl}
 use mathlib.Core.List.{[]}
 use Prim.Native.Nat.{_-_, _^_, _<_}
 use native.Mathlib.Omega.{arith}
 use borrow.Author.Needs.{needs}
 use Rattle.lists.proofs.Writing.{Writing, writing-all, writing-next, writing-room, writing-end}
-use Rattle.card.specs.Numbers.{mostGroups, groupValues, numeral}
-use Rattle.card.proofs.Numbers.{numeral-one, numeral-some, numeral-next}
-use Rattle.card.proofs.write_number.Statement.{statement}
-use Rattle.card.proofs.write_number.Tie as tie
+use Rattle.numbers.specs.Numbers.{mostGroups, groupValues, numeral}
+use Rattle.numbers.proofs.Numbers.{numeral-one, numeral-some, numeral-next}
+use Rattle.numbers.proofs.write_number.Statement.{statement}
+use Rattle.numbers.proofs.write_number.Tie as tie
 
 abbrev Inv-loop : tie.InvT-loop
 Inv-loop number card₀ at rest₀ place₀ card rest place =

@@ -11,9 +11,9 @@ use lib.ListN.{length, getD, drop, drop-of-length-le, length-drop}
 use Rattle.lists.proofs.Tests.{below-or-not}
 use Rattle.lists.proofs.Scans.{drop-next}
 use Rattle.shape.specs.Shape.{byteValues}
-use Rattle.card.specs.declared.Number.the-variants.{Read, Malformed}
-use Rattle.card.specs.Numbers.{groupValues, Found, value, malformed, grouped, readNumber, placed, numberAt}
-use Rattle.card.proofs.Numbers.{read-one, read-more, grouped-more, never, value-parts}
+use Rattle.numbers.specs.declared.Number.the-variants.{Read, Malformed}
+use Rattle.numbers.specs.Numbers.{groupValues, Found, value, malformed, grouped, readNumber, placed, numberAt}
+use Rattle.numbers.proofs.Numbers.{read-one, read-more, grouped-more, never, value-parts}
 
 -- ---- a group more
 

@@ -1,0 +1,5 @@
+-- Laws of numbers in seven-bit groups.
+pub mod Numbers
+pub mod Numerals
+pub mod Places
+pub mod Cut

@@ -1,0 +1,2 @@
+-- Numbers in seven-bit groups.
+pub mod Numbers

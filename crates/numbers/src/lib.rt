@@ -1,0 +1,109 @@
+// Numbers in seven-bit groups: read from a card or a program's input, and written.
+ghost use mathlib.Core.Path.{_≡_};
+ghost use mathlib.Core.Bool.{true};
+ghost use mathlib.Core.List.{flatMap};
+ghost use Prim.Native.Nat.{_+_, _^_, _≤_, _<_};
+ghost use lib.ListN.{length};
+ghost use lib.Seq.{sets};
+ghost use Rattle.lists.specs.Lists.{all, below};
+ghost use Rattle.numbers.specs.Numbers.{mostGroups, groupValues, numeral, numberAt};
+
+// "Only the shortest form is read, of at most three groups."
+const MOST_GROUPS: usize = 3;
+
+// The values of a group of seven bits.
+const GROUP_VALUES: usize = 128;
+
+// What is read at a place: a number and the place behind it.
+pub enum Number {
+    Read { value: usize, next: usize },
+    Malformed,
+}
+
+fn wide(b: u8) -> usize
+    ensures { λ r. ⌜ r ≡ b ⌝ }
+{
+    b as usize
+}
+
+// The number of at most `groups` groups at a place, least group first.
+fn read_groups(bytes: &[u8], at: usize, groups: usize) -> Number
+    requires { ⌜ groups ≤ mostGroups ⌝ }
+    ensures { λ r. ⌜ r ≡ numberAt groups (now (bytes .entry)) at ⌝ }
+{
+    if groups == 0 {
+        return Number::Malformed;
+    }
+    if bytes.len() <= at {
+        return Number::Malformed;
+    }
+    let b = wide(bytes[at]);
+    if b < GROUP_VALUES {
+        return Number::Read {
+            value: b,
+            next: at + 1,
+        };
+    }
+    let Number::Read { value, next } = read_groups(bytes, at + 1, groups - 1) else {
+        return Number::Malformed;
+    };
+    // A last group of 0 is not the shortest form.
+    if value == 0 {
+        return Number::Malformed;
+    }
+    Number::Read {
+        value: b - GROUP_VALUES + GROUP_VALUES * value,
+        next,
+    }
+}
+
+// The number at a place, any place.
+pub fn read_number(bytes: &[u8], at: usize) -> Number
+    ensures { λ r. ⌜ r ≡ numberAt mostGroups (now (bytes .entry)) at ⌝ }
+{
+    read_groups(bytes, at, MOST_GROUPS)
+}
+
+// Writes a number at a place; the place behind it.
+fn write_number(number: usize, card: &mut [u8], at: usize) -> usize
+    requires { ⌜ (number < groupValues ^ mostGroups) × (at + length (numeral mostGroups number) ≤ length (now card)) ⌝ }
+    ensures { λ r. ⌜ (r ≡ at + length (numeral mostGroups number)) × (now (card .exit) ≡ sets (now (card .entry)) at (numeral mostGroups number)) ⌝ }
+{
+    let mut rest = number;
+    let mut place = at;
+    while GROUP_VALUES <= rest {
+        card[place] = (GROUP_VALUES + rest % GROUP_VALUES) as u8;
+        rest /= GROUP_VALUES;
+        place += 1;
+    }
+    card[place] = rest as u8;
+    place + 1
+}
+
+// Writes numbers one behind the other from a place on; the place behind them.
+pub fn write_numbers(numbers: &[usize], card: &mut [u8], at: usize) -> usize
+    requires { ⌜ (all (below (groupValues ^ mostGroups)) (now numbers) ≡ true) × (at + length (flatMap (numeral mostGroups) (now numbers)) ≤ length (now card)) ⌝ }
+    ensures { λ r. ⌜ (r ≡ at + length (flatMap (numeral mostGroups) (now (numbers .entry)))) × (now (card .exit) ≡ sets (now (card .entry)) at (flatMap (numeral mostGroups) (now (numbers .entry)))) ⌝ }
+{
+    let mut place = at;
+    let mut i = 0;
+    while i < numbers.len() {
+        place = write_number(numbers[i], card, place);
+        i += 1;
+    }
+    place
+}
+
+// The same of symbols.
+pub fn write_symbols(symbols: &[u16], card: &mut [u8], at: usize) -> usize
+    requires { ⌜ at + length (flatMap (numeral mostGroups) (now symbols)) ≤ length (now card) ⌝ }
+    ensures { λ r. ⌜ (r ≡ at + length (flatMap (numeral mostGroups) (now (symbols .entry)))) × (now (card .exit) ≡ sets (now (card .entry)) at (flatMap (numeral mostGroups) (now (symbols .entry)))) ⌝ }
+{
+    let mut place = at;
+    let mut i = 0;
+    while i < symbols.len() {
+        place = write_number(symbols[i] as usize, card, place);
+        i += 1;
+    }
+    place
+}
