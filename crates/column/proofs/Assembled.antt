@@ -12,12 +12,12 @@ use Rattle.field.specs.Residues.{Prime, minus, solution}
 use Rattle.field.proofs.Fields.{pos}
 use Rattle.field.proofs.Bridge.{r as residue}
 use Rattle.column.specs.Column.{Points}
-use Rattle.column.specs.Solving.{mostEntries, element, cell, powerOf, less, eliminated, term, Vandermonde, Meets, Substituted}
+use Rattle.column.specs.Solving.{mostEntries, element, cell, powerOf, less, eliminated, differences, term, Vandermonde, Meets, Pivots, Substituted}
 use Rattle.column.specs.declared.Outcome.{Outcome}
 use Rattle.column.specs.declared.Outcome.the-variants.{Solved, ZeroDivisor}
 use Rattle.column.specs.declared.Solution.{Solution}
-use Rattle.column.proofs.Elimination.{eliminated-ext}
-use Rattle.column.proofs.Solved.{pivot-nonzero, triangle-solved}
+use Rattle.column.proofs.Elimination.{eliminated-ext, differences-ext}
+use Rattle.column.proofs.Solved.{corner-product, pivot-nonzero, triangle-solved}
 use Rattle.column.proofs.Substitution.{res-of-mod}
 
 first-power : (x : ℕ) → x ^ 1 ≡ x
@@ -28,23 +28,36 @@ unfolding eliminated less minus
 corner-small q x zero points h = mod-lt _ h
 corner-small q x (suc i) points h = mod-lt _ h
 
+differences-small : (q x i : ℕ) (points : ℕ → ℕ) → 1 < q → differences q points i x < q
+unfolding differences
+differences-small q x zero points h = h
+differences-small q x (suc i) points h = mod-lt _ (omega arith)
+
 module _ (q : ℕ) (prime : Prime q) (xs : List ℕ) (apart : Points q xs) (r : ℕ) (long : length xs ≡ r) (few : r ≤ mostEntries)
     (powers : List (List ℕ)) (v : Vandermonde q xs powers) (right points side : List ℕ) (triangle : List (List ℕ))
     (points-are : (j : ℕ) → j < r → element points j ≡ cell powers j 1)
-    (triangle-is : (j i : ℕ) → j < r → i < r → cell triangle j i ≡ eliminated q (element points) i (cell powers j) 0)
+    (triangle-is : (j i : ℕ) → j < r → i < r → cell triangle j i ≡ differences q (element points) i (element points j))
     (side-is : (i : ℕ) → i < r → element side i ≡ eliminated q (element points) i (element right) 0)
     (s : Solution) (w : Substituted q r triangle side s) where
   -- the first powers are the points, where there is more than one
-  point-is : (i : ℕ) → i < r → (l : ℕ) → l < i → element points l ≡ element xs l
-  point-is i h l k =
-      points-are l (omega arith) ∙ v .power l 1 (omega arith) (omega arith) ∙ ap (λ x. x % q) (first-power (element xs l))
+  point-of : 1 < r → (l : ℕ) → l < r → element points l ≡ element xs l
+  point-of more l k =
+      points-are l k ∙ v .power l 1 (omega arith) (omega arith) ∙ ap (λ x. x % q) (first-power (element xs l))
       ∙ mod-eq-of-lt (apart .below l (omega arith))
+
+  point-is : (i : ℕ) → i < r → (l : ℕ) → l < i → element points l ≡ element xs l
+  point-is i h l k = point-of (omega arith) l (omega arith)
 
   corner-is : (j i : ℕ) → j < r → i < r → cell triangle j i ≡ eliminated q (element xs) i (powerOf q (element xs j)) 0
   corner-is j i h k =
-      triangle-is j i h k
-      ∙ eliminated-ext q (element points) (element xs) (cell powers j) (powerOf q (element xs j)) i 0 (point-is i k)
-      (λ t l. v .power j t (omega arith) (omega arith))
+      triangle-is j i h k ∙ same i k
+      ∙ corner-product q prime xs apart i (element xs j) (corner-small q (element xs j) i (element xs) (pos q prime)) (differences-small q (element xs j) i (element xs) (prime .big))
+    where
+      same : (i : ℕ) → i < r → differences q (element points) i (element points j) ≡ differences q (element xs) i (element xs j)
+      same zero l = unfold differences in refl
+      same (suc m) l =
+          ap (differences q (element points) (suc m)) (point-of (omega arith) j h)
+          ∙ differences-ext q (element points) (element xs) (suc m) (element xs j) (point-is (suc m) l)
 
   right-is : (i : ℕ) → i < r → element side i ≡ eliminated q (element xs) i (element right) 0
   right-is i h = side-is i h ∙ eliminated-ext q (element points) (element xs) (element right) (element right) i 0 (point-is i h) (λ t l. refl)
@@ -59,7 +72,12 @@ module _ (q : ℕ) (prime : Prime q) (xs : List ℕ) (apart : Points q xs) (r : 
           absurd (pivot-nonzero q prime xs apart (z .0) (omega (arith, z .1)) (sym (corner-is (z .0) (z .0) (z .1) (z .1)) ∙ z .2))
 
   meets : (i : ℕ) → i < r → Meets q r triangle side (s .values) i
-  meets = w .meets prime (λ i h. rw (corner-is i i h h) (corner-small q (element xs i) i (element xs) (pos q prime))) outcome-is
+  meets = w .meets
+      (record {
+        prime = prime;
+        small = λ i h. rw (corner-is i i h h) (corner-small q (element xs i) i (element xs) (pos q prime));
+        nonzero = λ i h e. pivot-nonzero q prime xs apart i (omega arith) (sym (corner-is i i h h) ∙ e);
+      }) outcome-is
 
   taken : (j : ℕ) → j < r → element (take r (s .values)) j ≡ element (s .values) j
   taken j h = getD-take r (s .values) j 0 h

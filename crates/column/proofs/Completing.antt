@@ -3,20 +3,18 @@ use mathlib.Core.Path.{_≡_, refl, sym, ap, ap₂, _∙_}
 use mathlib.Core.Bool.{true, false}
 use mathlib.Core.List.{List, map}
 use Prim.Native.Nat.{ℕ, _+_, _-_, _*_, _%_, _^_, _<_}
-use native.Mathlib.Nat.{zero-add}
 use native.Mathlib.Omega.{arith}
 use lib.ListN.{length, getD, take, length-map}
 use Rattle.lists.specs.Lists.{member, others, rising}
 use Rattle.lists.specs.Sums.{sum}
 use Rattle.lists.proofs.Tables.{map-at}
-use Rattle.lists.proofs.Sums.{sum-mod}
+use Rattle.lists.proofs.Sums.{sum-ext}
 use Rattle.lists.proofs.Members.{rises-rising, rising-below, member-of}
 use Rattle.lists.proofs.Others.{others-rise, others-length, others-at, others-apart}
 use Rattle.field.specs.Residues.{minus, solution}
-use Rattle.field.proofs.Residues.{mod-mul-mod}
-use Rattle.field.proofs.Bridge.{minus-same, solution-ext}
-use Rattle.column.specs.Column.{listedSum, missing, completed}
-use Rattle.column.specs.Solving.{element, cell, powerOf, term, Vandermonde, Solves, Known, Missing, Scattered, Completes}
+use Rattle.field.proofs.Bridge.{minus-mod, solution-ext}
+use Rattle.column.specs.Column.{parity, listedSum, missing, completed}
+use Rattle.column.specs.Solving.{element, cell, powerOf, Vandermonde, Solves, Known, Missing, Scattered, Completes}
 use Rattle.column.specs.declared.Outcome.the-variants.{Solved}
 use Rattle.column.specs.declared.Solution.{Solution}
 use Rattle.column.proofs.Solved.{points-picked}
@@ -30,10 +28,10 @@ module _ (q : ℕ) (ps list values : List ℕ) (w : Known q ps list values) wher
   pub rest-length : length (others (length ps) list) ≡ length ps - length list
   rest-length = omega (arith, others-length (length ps) list (w .up))
 
-  module _ (r : ℕ) (r-is : r ≡ length (others (length ps) list)) (known want right : List ℕ) (rows wanted : List (List ℕ)) (s : Solution)
+  module _ (r : ℕ) (r-is : r ≡ length (others (length ps) list)) (known want right : List ℕ) (wanted : List (List ℕ)) (s : Solution)
+      (known-long : length known ≡ length list)
       (known-are : (j : ℕ) → j < length list → element known j ≡ element ps (element list j))
-      (rows-are : (j t : ℕ) → j < length list → t < r → cell rows j t ≡ powerOf q (element known j) t)
-      (right-is : (t : ℕ) → t < r → element right t ≡ minus q 0 (sum (length values) (term rows values t 0)))
+      (right-is : (t : ℕ) → t < r → element right t ≡ minus q 0 (parity q known values t))
       (want-are : (j : ℕ) → j < r → element want j ≡ element ps (element (others (length ps) list) j))
       (wanted-are : (j t : ℕ) → j < r → t < r → cell wanted j t ≡ powerOf q (element want j) t)
       (solves : Solves q r wanted right s) where
@@ -51,14 +49,11 @@ module _ (q : ℕ) (ps list values : List ℕ) (w : Known q ps list values) wher
     }
 
     -- the known part of equation t
-    part : (t : ℕ) → t < r → sum (length values) (term rows values t 0) % q ≡ listedSum ps list (element values) t % q
-    unfolding listedSum term
-    part t h =
-        ap (λ n. sum n (term rows values t 0) % q) (w .each)
-        ∙ sum-mod q (length list) _ _ (λ j l.
-        ap (λ i. (cell rows i t * element values i) % q) (zero-add j)
-        ∙ ap (λ x. (x * element values j) % q) (rows-are j t l h ∙ ap (λ x. powerOf q x t) (known-are j l))
-        ∙ mod-mul-mod _ (element values j) q)
+    part : (t : ℕ) → parity q known values t ≡ listedSum ps list (element values) t % q
+    unfolding parity listedSum
+    part t =
+        ap (λ n. sum n (λ j. element known j ^ t * element values j) % q) known-long
+        ∙ ap (λ x. x % q) (sum-ext (length list) _ _ (λ j l. ap (λ x. x ^ t * element values j) (known-are j l)))
 
     pub missing-by : Missing q ps list values s
     missing-by = record {
@@ -66,7 +61,7 @@ module _ (q : ℕ) (ps list values : List ℕ) (w : Known q ps list values) wher
       never = both .0;
       found =
           ap (λ n. take n (s .values)) (sym rest-length ∙ sym r-is) ∙ both .1
-          ∙ solution-ext q xs _ _ (λ t l. right-is t (omega (arith, count)) ∙ minus-same q 0 _ _ (part t (omega (arith, count))))
+          ∙ solution-ext q xs _ _ (λ t l. right-is t (omega (arith, count)) ∙ ap (minus q 0) (part t) ∙ minus-mod q 0 _)
           ∙ (unfold missing in refl);
     }
       where

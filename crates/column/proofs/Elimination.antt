@@ -11,7 +11,7 @@ use Rattle.lists.specs.Sums.{sum}
 use Rattle.field.specs.Residues.{minus}
 use Rattle.field.proofs.Ring.{Ring, Field, ring, mul-ne-zero}
 use Rattle.field.proofs.Powers.{pow, pow-zero, pow-suc}
-use Rattle.column.specs.Solving.{less, eliminated}
+use Rattle.column.specs.Solving.{less, eliminated, differences as numberDifferences}
 
 -- ---- in numbers: one point more
 
@@ -34,6 +34,19 @@ eliminated-ext q p p′ f g (suc i) t hp hf =
     ∙ less-ext q (p′ i) _ _ t
     (eliminated-ext q p p′ f g i t (λ l h. hp l (omega arith)) (λ s h. hf s (omega arith)))
     (eliminated-ext q p p′ f g i (t + 1) (λ l h. hp l (omega arith)) (λ s h. hf s (omega arith)))
+
+pub differences-next : (q : ℕ) (points : ℕ → ℕ) (i x p d : ℕ) → p ≡ numberDifferences q points i x → d ≡ minus q x (points i)
+    → (p * d) % q ≡ numberDifferences q points (i + 1) x
+unfolding numberDifferences
+differences-next q points i x p d e f = rw (add-one i, e, f)
+
+-- they go by the points before i
+pub differences-ext : (q : ℕ) (p p′ : ℕ → ℕ) (i x : ℕ) → ((l : ℕ) → l < i → p l ≡ p′ l)
+    → numberDifferences q p i x ≡ numberDifferences q p′ i x
+unfolding numberDifferences
+differences-ext q p p′ zero x h = refl
+differences-ext q p p′ (suc i) x h =
+    ap₂ (λ d y. (d * minus q x y) % q) (differences-ext q p p′ i x (λ l k. h l (omega arith))) (h i (omega arith))
 
 -- ---- in a field
 
@@ -88,11 +101,11 @@ module _ {F : Type 0} (R : Ring F) where
   differences X zero x = 𝟙
   differences X (suc i) x = differences X i x ⊗ (x ⊖ X i)
 
-  differences-none : (X : ℕ → F) (x : F) → differences X 0 x ≡ 𝟙
+  pub differences-none : (X : ℕ → F) (x : F) → differences X 0 x ≡ 𝟙
   unfolding differences
   differences-none X x = refl
 
-  differences-more : (X : ℕ → F) (i : ℕ) (x : F) → differences X (suc i) x ≡ differences X i x ⊗ (x ⊖ X i)
+  pub differences-more : (X : ℕ → F) (i : ℕ) (x : F) → differences X (suc i) x ≡ differences X i x ⊗ (x ⊖ X i)
   unfolding differences
   differences-more X i x = refl
 

@@ -14,13 +14,13 @@ use Rattle.lists.proofs.Tables.{map-at}
 use Rattle.field.specs.Residues.{Prime, minus, solution}
 use Rattle.field.proofs.Ring.{Ring, Field, ring, sub-add, mul-one}
 use Rattle.field.proofs.Powers.{pow, pow-zero}
-use Rattle.field.proofs.Residues.{Residue, res-add, res-mul, res-pow, res-mod, zero-is}
+use Rattle.field.proofs.Residues.{Residue, res-add, res-mul, res-pow, res-mod, zero-is, one-is}
 use Rattle.field.proofs.Fields.{pos, R}
 use Rattle.field.proofs.Vandermonde.{moment, moment-nil, moment-cons, Apart, Distinct, unique}
 use Rattle.field.proofs.Bridge.{r as residue, K as field, res-inj, small-same, minus-is, solution-is, solution-length, solution-small}
 use Rattle.column.specs.Column.{Points}
-use Rattle.column.specs.Solving.{element, powerOf, less, eliminated}
-use Rattle.column.proofs.Elimination.{from, from-none, from-more, from-ext, rest, rest-none, differences, rest-powers, differences-nonzero, met}
+use Rattle.column.specs.Solving.{element, powerOf, less, eliminated, differences}
+use Rattle.column.proofs.Elimination.{from, from-none, from-more, from-ext, rest, rest-none, differences as fieldDifferences, differences-none, differences-more, rest-powers, differences-nonzero, met}
 
 -- some of the points, at rising places
 pub points-picked : (q : ℕ) (ps : List ℕ) → Points q ps → (a : ℕ) (list : List ℕ) → Rises a (length ps) list → Points q (map (λ i. getD ps i 0) list)
@@ -125,11 +125,31 @@ module _ (q : ℕ) (prime : Prime q) where
     corner-is : (i x : ℕ) → r (corner i x) ≡ rest (R q prime) X i (pow (R q prime) (r x)) 0
     corner-is i x = eliminated-is (element xs) (powerOf q x) i 0 ∙ ap (λ f. rest (R q prime) X i f 0) (fun-ext (powers-are x))
 
+    differences-is : (i x : ℕ) → r (differences q (element xs) i x) ≡ fieldDifferences (R q prime) X i (r x)
+    differences-is zero x = none ∙ sym (differences-none (R q prime) X (r x))
+      where
+        none : r (differences q (element xs) 0 x) ≡ 𝟙
+        none = unfold differences in sym (one-is q o)
+    differences-is (suc i) x = go (differences-is i x)
+      where
+        go : r (differences q (element xs) i x) ≡ fieldDifferences (R q prime) X i (r x)
+            → r (differences q (element xs) (suc i) x) ≡ fieldDifferences (R q prime) X (suc i) (r x)
+        go e = unfold differences in
+            res-mod q o _ ∙ res-mul q o _ _ ∙ ap₂ _⊗_ e (minus-is q prime x (element xs i)) ∙ sym (differences-more (R q prime) X i (r x))
+
+    -- what is left of the powers of x in the triangle: x less each point before, multiplied
+    pub corner-product : (i x : ℕ) → eliminated q (element xs) i (powerOf q x) 0 < q → differences q (element xs) i x < q
+        → differences q (element xs) i x ≡ eliminated q (element xs) i (powerOf q x) 0
+    corner-product i x low low′ =
+        res-inj q prime _ _ low′ low
+        (differences-is i x ∙ sym (mul-one (R q prime) _) ∙ ap (λ u. fieldDifferences (R q prime) X i (r x) ⊗ u) (sym (pow-zero (R q prime) (r x)))
+        ∙ sym (rest-powers (R q prime) X (r x) i 0) ∙ sym (corner-is i x))
+
     -- number 8 never comes
     pub pivot-nonzero : (i : ℕ) → i < length xs → eliminated q (element xs) i (powerOf q (element xs i)) 0 ≢ 0
     pivot-nonzero i h e =
         differences-nonzero K X (X i) i differ
-        (sym (mul-one (R q prime) _) ∙ ap (λ u. differences (R q prime) X i (X i) ⊗ u) (sym (pow-zero (R q prime) (X i)))
+        (sym (mul-one (R q prime) _) ∙ ap (λ u. fieldDifferences (R q prime) X i (X i) ⊗ u) (sym (pow-zero (R q prime) (X i)))
         ∙ sym (rest-powers (R q prime) X (X i) i 0) ∙ sym (corner-is i (element xs i)) ∙ ap r e ∙ sym (zero-is q o))
       where
         differ : (l : ℕ) → l < i → X i ⊖ X l ≢ 𝟘

@@ -1,5 +1,6 @@
 -- Solving r equations in r unknowns: what is promised of `solve` and `complete`, and of the steps inside them.
 use mathlib.Core.Path.{_≡_}
+use mathlib.Core.Logic.{_≢_}
 use mathlib.Core.Bool.{true, false}
 use mathlib.Core.List.{List, []}
 use Prim.Native.Nat.{ℕ, zero, suc, _+_, _*_, _-_, _%_, _^_, _<_, _≤_}
@@ -68,9 +69,25 @@ unfoldable pub eliminated : ℕ → (ℕ → ℕ) → ℕ → (ℕ → ℕ) → 
 eliminated q points zero side = side
 eliminated q points (suc i) side = less q (points i) (eliminated q points i side)
 
+-- x less each of the first i points, multiplied: what is left, after i points, of the powers of x
+unfoldable pub differences : ℕ → (ℕ → ℕ) → ℕ → ℕ → ℕ
+differences q points zero x = 1
+differences q points (suc i) x = (differences q points i x * minus q x (points i)) % q
+
 -- the term of the d-th value from `start` on, in equation t
 unfoldable pub term : List (List ℕ) → List ℕ → ℕ → ℕ → ℕ → ℕ
 term rows values t start d = cell rows (start + d) t * element values (start + d)
+
+-- the product of the first i pivots, which stand on the diagonal
+unfoldable pub product : ℕ → List (List ℕ) → ℕ → ℕ
+product q triangle zero = 1
+product q triangle (suc i) = (product q triangle i * cell triangle i i) % q
+
+-- a prime modulus, and no pivot that is 0
+pub record Pivots (q r : ℕ) (triangle : List (List ℕ)) : Type 0 where
+  pub prime : Prime q
+  pub small : (i : ℕ) → i < r → cell triangle i i < q
+  pub nonzero : (i : ℕ) → i < r → cell triangle i i ≢ 0
 
 -- value i is below the modulus, and meets equation i of those of which equation i has the unknowns from i on
 pub record Meets (q r : ℕ) (triangle : List (List ℕ)) (right values : List ℕ) (i : ℕ) : Type 0 where
@@ -81,7 +98,7 @@ pub record Meets (q r : ℕ) (triangle : List (List ℕ)) (right values : List �
 pub record Substituted (q r : ℕ) (triangle : List (List ℕ)) (right : List ℕ) (s : Solution) : Type 0 where
   pub long : length (s .values) ≡ mostEntries
   pub stopped : s .outcome ≡ ZeroDivisor → (i : ℕ) × (i < r) × (cell triangle i i ≡ 0)
-  pub meets : Prime q → ((i : ℕ) → i < r → cell triangle i i < q) → s .outcome ≡ Solved → (i : ℕ) → i < r → Meets q r triangle right (s .values) i
+  pub meets : Pivots q r triangle → s .outcome ≡ Solved → (i : ℕ) → i < r → Meets q r triangle right (s .values) i
 
 -- values stored at listed entries of a column, the other entries as they were
 pub record Scattered (list values before after : List ℕ) : Type 0 where

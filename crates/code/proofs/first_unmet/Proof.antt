@@ -7,7 +7,8 @@ use lib.Arith.{digits-lt}
 use lib.ListN.{length}
 use lib.Seq.{length-take-le}
 use Rattle.shape.specs.declared.Shape.{Shape}
-use Rattle.shape.specs.Shape.{size}
+use Rattle.shape.specs.Shape.{mostNodes, size}
+use Rattle.column.specs.Solving.{element}
 use Rattle.code.specs.declared.Checked.the-variants.{Sound}
 use Rattle.code.specs.Code.{narrow}
 use Rattle.code.specs.Archive.{equation}
@@ -22,11 +23,11 @@ abbrev shape : ℕ → ℕ → ℕ → Shape
 shape n k layers = record { n = n; k = k; layers = layers }
 
 abbrev Inv-loop2 : tie.InvT-loop2
-Inv-loop2 nodes n k layers two r found₀ layer a points column t₀ found t =
+Inv-loop2 nodes n k layers two r found₀ layer a sums t₀ found t =
     (found ≡ Sound) × (t ≤ r) × MetBelow (shape n k layers) nodes ((layer * two + a) * r + t)
 
 abbrev μ-loop2 : tie.MeasureT-loop2
-μ-loop2 nodes n k layers two r found₀ layer a points column t₀ found t = r - t
+μ-loop2 nodes n k layers two r found₀ layer a sums t₀ found t = r - t
 
 abbrev Inv-loop : tie.InvT-loop
 Inv-loop nodes n k layers two r found₀ layer a₀ found a =
@@ -91,9 +92,6 @@ gathered-requires c κs =
     let two = c .before .before .before .before .before .two-to .ensures in
     (w .shaped .n-high, place (c .before), rw two (omega (arith, w .long)))
 
-loop2-holds : tie.Need-loop2-holds Inv-loop2 μ-loop2 Inv-loop μ-loop Inv-equations μ-equations
-loop2-holds c = let l = c .before .before .before .loop in (l .inv .0, search needs, λ x h. l .inv .2 x (omega arith))
-
 -- both arrays have room for n entries
 room : (c : tie.After-gathered Inv-loop2 μ-loop2 Inv-loop μ-loop Inv-equations μ-equations) →
     let n = c .before .before .before .before .before .before .before .before .args .s .n in
@@ -101,48 +99,59 @@ room : (c : tie.After-gathered Inv-loop2 μ-loop2 Inv-loop μ-loop Inv-equations
 room c = let h = inner (c .before .before) .shaped .n-high in (omega (arith, c .before .points-at .ensures .0), omega (arith, c .gathered .ensures .long))
 
 array-share-prefix-points : tie.Need-array-share-prefix-points Inv-loop2 μ-loop2 Inv-loop μ-loop Inv-equations μ-equations
-array-share-prefix-points c = room (c .before .before) .0
+array-share-prefix-points c = room c .0
 
 slice-aggregate-parity : tie.Need-slice-aggregate-parity Inv-loop2 μ-loop2 Inv-loop μ-loop Inv-equations μ-equations
-slice-aggregate-parity c = sym (length-take-le _ _ (room (c .before .before .before) .0))
+slice-aggregate-parity c = sym (length-take-le _ _ (room (c .before) .0))
 
 array-share-prefix-column : tie.Need-array-share-prefix-column Inv-loop2 μ-loop2 Inv-loop μ-loop Inv-equations μ-equations
-array-share-prefix-column c = room (c .before .before .before) .1
+array-share-prefix-column c = room (c .before) .1
 
 slice-aggregate-parity-2 : tie.Need-slice-aggregate-parity-2 Inv-loop2 μ-loop2 Inv-loop μ-loop Inv-equations μ-equations
-slice-aggregate-parity-2 c = sym (length-take-le _ _ (room (c .before .before .before .before) .1))
-
-cast-parity : tie.Need-cast-parity Inv-loop2 μ-loop2 Inv-loop μ-loop Inv-equations μ-equations
-cast-parity c = omega (arith, inner (c .before .before .before .before .before .before) .shaped .n-high)
+slice-aggregate-parity-2 c = sym (length-take-le _ _ (room (c .before .before) .1))
 
 parity-requires : tie.Need-parity-requires Inv-loop2 μ-loop2 Inv-loop μ-loop Inv-equations μ-equations
 parity-requires c κs =
-    let w = room (c .before .before .before .before) in
-    (omega arith, length-take-le _ _ (w .1) ∙ sym (length-take-le _ _ (w .0)))
+    let w = room (c .before .before) in
+    let high = inner (c .before .before .before .before) .shaped .n-high in
+    (omega arith, omega (arith, high), rw (length-take-le _ _ (w .0)) (omega (arith, high)), length-take-le _ _ (w .1) ∙ sym (length-take-le _ _ (w .0)))
 
--- the sum is that of the equation
-sum-is : (c : tie.After-parity Inv-loop2 μ-loop2 Inv-loop μ-loop Inv-equations μ-equations) →
+loop2-holds : tie.Need-loop2-holds Inv-loop2 μ-loop2 Inv-loop μ-loop Inv-equations μ-equations
+loop2-holds c = let l = c .before .before .before .before .before .before .loop in (l .inv .0, search needs, λ x h. l .inv .2 x (omega arith))
+
+-- a sum is that of its equation
+sum-is : (c : tie.In-loop2 Inv-loop2 μ-loop2 Inv-loop μ-loop Inv-equations μ-equations) →
     let l = c .before .before .before .before .before .before .before in
     let a = l .before .before .before .before .before .before .args in
-    c .parity .result
-    ≡ equation narrow (a .s) (a .nodes .now) (l .before .before .before .equations .layer * 2 ^ a .s .n + l .before .loop .a) (c .before .before .before .before .loop2 .t)
+    element (c .before .before .parity .result) (c .before .loop2 .t)
+    ≡ equation narrow (a .s) (a .nodes .now) (l .before .before .before .equations .layer * 2 ^ a .s .n + l .before .loop .a) (c .before .loop2 .t)
 unfolding size
 sum-is c =
     let g = c .before .before .before .before .before in
     let l = g .before .before in
     let two = l .before .before .before .before .two-to .ensures in
-    c .parity .ensures .1
+    c .before .before .parity .ensures _ (c .loop2-test .taken)
     ∙ gathered-equation _ (inner l .shaped .n-high) _ _ _ (rw two at (g .gathered .ensures)) narrow _ _ _ _ refl (rw two at (l .loop-test .taken)) (g .before .points-at .ensures .1)
+
+-- an equation's number is within the array of sums
+within : (c : tie.In-loop2 Inv-loop2 μ-loop2 Inv-loop μ-loop Inv-equations μ-equations) → c .before .loop2 .t < mostNodes
+within c = omega (arith, inner (c .before .before .before .before .before .before .before) .shaped .n-high)
+
+mul-if1 : tie.Need-mul-if1 Inv-loop2 μ-loop2 Inv-loop μ-loop Inv-equations μ-equations
+mul-if1 c = omega (arith, within c)
+
+array-read-if1 : tie.Need-array-read-if1 Inv-loop2 μ-loop2 Inv-loop μ-loop Inv-equations μ-equations
+array-read-if1 c = omega (arith, within c)
 
 loop2-again : tie.Need-loop2-again Inv-loop2 μ-loop2 Inv-loop μ-loop Inv-equations μ-equations
 loop2-again c =
-    let i2 = c .before .before .before .before in
-    let l = i2 .before .before .before .before in
+    let i2 = c .before in
+    let l = i2 .before .before .before .before .before .before .before in
     let two = l .before .before .before .before .two-to .ensures in (
       i2 .before .loop2 .inv .0,
       search needs,
       rw two
-          (met-more _ _ _ _ (i2 .loop2-test .taken) (rw two at (i2 .before .loop2 .inv .2)) (sym (sum-is (c .before)) ∙ c .if1 .left)),
+          (met-more _ _ _ _ (i2 .loop2-test .taken) (rw two at (i2 .before .loop2 .inv .2)) (sym (sum-is i2) ∙ c .if1 .left)),
     )
 
 loop-again : tie.Need-loop-again Inv-loop2 μ-loop2 Inv-loop μ-loop Inv-equations μ-equations
@@ -169,11 +178,11 @@ returns c =
 
 returns-2 : tie.Need-returns-2 Inv-loop2 μ-loop2 Inv-loop μ-loop Inv-equations μ-equations
 returns-2 c =
-    let i2 = c .before .before .before .before in
-    let l = i2 .before .before .before .before in
+    let i2 = c .before in
+    let l = i2 .before .before .before .before .before .before .before in
     let two = l .before .before .before .before .two-to .ensures in
     unmet-when _ _ _ _ _ (l .before .before .equations-test .taken) (rw two at (l .loop-test .taken)) (i2 .loop2-test .taken)
-    (rw two at (i2 .before .loop2 .inv .2)) (λ e. c .if1 .taken (sum-is (c .before) ∙ e))
+    (rw two at (i2 .before .loop2 .inv .2)) (λ e. c .if1 .taken (sum-is i2 ∙ e))
 
 pub first-unmet-spec : {M : Type 1} → statement M
 first-unmet-spec =
@@ -194,13 +203,14 @@ first-unmet-spec =
     mul-gathered-2
     add-gathered
     gathered-requires
-    loop2-holds
     array-share-prefix-points
     slice-aggregate-parity
     array-share-prefix-column
     slice-aggregate-parity-2
-    cast-parity
     parity-requires
+    loop2-holds
+    mul-if1
+    array-read-if1
     (λ c. search needs)
     (λ c. search needs)
     loop2-again

@@ -49,7 +49,7 @@ loop-again c =
     )
 
 returns : tie.Need-returns Inv-loop μ-loop
-returns c = λ j h. c .before .loop .inv .3 j (omega arith)
+returns c = (c .before .loop .inv .2, λ j h. c .before .loop .inv .3 j (omega arith))
 
 pub gathered-spec : {M : Type 1} → statement M
 gathered-spec =

@@ -1,49 +1,48 @@
--- The left side of a parity equation: its terms added one at a time, modulo q.
-use mathlib.Core.Path.{_≡_, ap, _∙_}
+-- The left sides of the equations, one at a time: the terms of each are those of the one before, times their points.
+use mathlib.Core.Path.{_≡_, refl, ap, _∙_}
 use mathlib.Core.List.{List}
-use Prim.Native.Nat.{ℕ, _*_, _-_, _%_, _^_, _≤_, _<_}
+use Prim.Native.Nat.{ℕ, _-_, _*_, _%_, _^_, _≤_, _<_}
 use native.Mathlib.Omega.{arith}
-use borrow.Author.Needs.{needs}
-use lib.ListN.{length, getD}
-use Rattle.lists.specs.Sums.{sum}
-use Rattle.lists.proofs.Sums.{sum-none, sum-more}
-use Rattle.field.proofs.Residues.{mod-mul-mod}
+use lib.ListN.{length, length-set}
+use Rattle.lists.proofs.Stores.{stored-more}
 use Rattle.column.specs.Column.{parity}
+use Rattle.column.specs.Solving.{mostEntries, element}
+use Rattle.column.proofs.Terms.{terms-first, terms-more, terms-total}
+use borrow.Author.Needs.{needs}
 use Rattle.column.proofs.parity.Statement.{statement}
 use Rattle.column.proofs.parity.Tie as tie
 
--- the term of entry i
-abbrev part : List ℕ → List ℕ → ℕ → ℕ → ℕ
-part points column t i = getD points i 0 ^ t * getD column i 0
-
 abbrev Inv-loop : tie.InvT-loop
-Inv-loop q points column t sum₀ i₀ i-end total i =
-    (i ≤ length points) × (i-end ≡ length points) × (total < q) × (total ≡ sum i (part points column t) % q)
+Inv-loop q r points column out₀ terms₀ t₀ out terms t =
+    (t ≤ r) × (length out ≡ mostEntries)
+    × ((i : ℕ) → i < length points → element terms i % q ≡ (element points i ^ t * element column i) % q)
+    × ((u : ℕ) → u < t → element out u ≡ parity q points column u)
 
 abbrev μ-loop : tie.MeasureT-loop
-μ-loop q points column t sum₀ i₀ i-end total i = length points - i
+μ-loop q r points column out₀ terms₀ t₀ out terms t = r - t
 
 loop-holds : tie.Need-loop-holds Inv-loop μ-loop
-loop-holds c = (search needs, search needs, search needs, sum-none _ _)
+loop-holds c =
+    let s = c .before .before .before .args in (
+      search needs,
+      search needs,
+      λ i h. terms-first (s .q) (s .points .now) (s .column .now) i _ (c .copied .ensures i (omega arith)),
+      λ u h. absurd (omega arith),
+    )
 
 loop-again : tie.Need-loop-again Inv-loop μ-loop
 loop-again c =
-    let l = c .before .before .before .before .before .before .loop in
-    let s = c .before .before .before .before .before .before .before .before .before .args in (
+    let l = c .before .before .before .loop in
+    let s = c .before .before .before .before .before .before .before .args in (
       search needs,
-      search needs,
-      c .add .ensures .0,
-      c .add .ensures .1
-          ∙ sum-more (s .q) (part (s .points .now) (s .column .now) (s .t)) (l .i) _ _ (l .inv .3)
-          (c .before .multiply .ensures .1 ∙ ap (λ p. (p * getD (s .column .now) (l .i) 0) % s .q) (c .before .before .before .power .ensures .1) ∙ mod-mul-mod _ _ _),
+      simp length-set (l .inv .1),
+      λ i h. terms-more (s .q) (s .points .now) (s .column .now) (l .t) i _ _ (l .inv .2 i h) (c .next-terms .ensures i h),
+      stored-more (λ u x. x ≡ parity (s .q) (s .points .now) (s .column .now) u) (l .out) (l .t) _ 0 (omega arith) (l .inv .3)
+          (c .before .total .ensures ∙ terms-total (s .q) (s .points .now) (s .column .now) (l .t) (l .terms) (l .inv .2)),
     )
 
 returns : tie.Need-returns Inv-loop μ-loop
-unfolding parity
-returns c =
-    let l = c .before .loop in
-    let s = c .before .before .before .before .args in
-    (l .inv .2, l .inv .3 ∙ ap (λ n. sum n (part (s .points .now) (s .column .now) (s .t)) % s .q) (omega arith))
+returns c = λ t h. c .before .loop .inv .3 t (omega arith)
 
 pub parity-spec : {M : Type 1} → statement M
 parity-spec =
@@ -51,13 +50,11 @@ parity-spec =
     (tie.spec
     Inv-loop
     μ-loop
+    (λ c κs. search needs)
     loop-holds
-    (λ c. search needs)
-    (λ c. search needs)
     (λ c κs. search needs)
     (λ c. search needs)
     (λ c. search needs)
-    (λ c κs. search needs)
     (λ c κs. search needs)
     (λ c. search needs)
     (λ c. search needs)

@@ -4,59 +4,55 @@ use mathlib.Core.List.{List}
 use Prim.Native.Nat.{ℕ, _-_, _≤_, _<_}
 use native.Mathlib.Omega.{arith}
 use lib.ListN.{length, length-set}
-use Rattle.field.specs.Residues.{Prime, minus}
-use Rattle.column.specs.Solving.{mostEntries, element, cell, Meets}
+use Rattle.field.specs.Residues.{minus}
+use Rattle.column.specs.Solving.{mostEntries, element, Meets, Pivots}
 use Rattle.column.specs.declared.Outcome.the-variants.{Solved, ZeroDivisor}
 use Rattle.column.proofs.Substitution.{divided-back, value-more}
 use borrow.Author.Needs.{needs}
 use Rattle.column.proofs.substituted.Statement.{statement}
 use Rattle.column.proofs.substituted.Tie as tie
 
--- the diagonal is below the modulus
-abbrev Diagonal : ℕ → ℕ → List (List ℕ) → Type 0
-Diagonal q r triangle = (i : ℕ) → i < r → cell triangle i i < q
-
 never : ZeroDivisor ≡ Solved → ⊥
 never e = let z : _≡_ {A = ℕ} 0 1 = cc in omega arith
 
 abbrev Inv-loop : tie.InvT-loop
-Inv-loop q r triangle right values₀ i₀ values i =
-    (i ≤ r) × (length values ≡ mostEntries) × (Prime q → Diagonal q r triangle → (l : ℕ) → i ≤ l → l < r → Meets q r triangle right values l)
+Inv-loop q r triangle right values₀ inverted i₀ values i =
+    (i ≤ r) × (length values ≡ mostEntries) × (Pivots q r triangle → (l : ℕ) → i ≤ l → l < r → Meets q r triangle right values l)
 
 abbrev μ-loop : tie.MeasureT-loop
-μ-loop q r triangle right values₀ i₀ values i = i
+μ-loop q r triangle right values₀ inverted i₀ values i = i
 
 loop-holds : tie.Need-loop-holds Inv-loop μ-loop
-loop-holds c = (search needs, search needs, λ p d l h k. absurd (omega arith))
+loop-holds c = (search needs, search needs, λ w l h k. absurd (omega arith))
 
 returns : tie.Need-returns Inv-loop μ-loop
 returns c = record {
   long = c .before .before .before .loop .inv .1;
   stopped = λ e. (c .before .before .before .loop .i - 1, omega arith, c .if1 .taken);
-  meets = λ p d e. absurd (never e);
+  meets = λ w e. absurd (never e);
 }
 
 loop-again : tie.Need-loop-again Inv-loop μ-loop
 loop-again c =
-    let l = c .before .before .before .before .before .before .before .before .loop in
+    let l = c .before .before .before .before .before .before .before .loop in
     let s = c .before .before .before .before .before .before .before .before .before .args in (
       search needs,
       simp length-set (l .inv .1),
-      λ prime diagonal.
+      λ w.
           value-more (s .q) (s .r) (s .t3) (s .t4) (l .values) (l .i - 1) (c .multiply .result) (omega arith) (omega arith)
-          (λ k h. l .inv .2 prime diagonal k (omega arith))
+          (λ k h. l .inv .2 w k (omega arith))
           (c .multiply .ensures .0)
-          (divided-back (s .q) prime _ _ _ _ _ _
-          (c .before .before .subtract .ensures .1 ∙ ap (minus (s .q) (element (s .t4) (l .i - 1))) (c .before .before .before .part-of .ensures .1))
+          (divided-back (s .q) (w .prime) _ _ _ _ _ _
+          (c .before .subtract .ensures .1 ∙ ap (minus (s .q) (element (s .t4) (l .i - 1))) (c .before .before .part-of .ensures .1))
           (c .multiply .ensures .1)
-          (c .before .inverse .ensures .one prime (omega (arith, c .before .before .before .before .before .if1 .left)) (diagonal (l .i - 1) (omega arith)))),
+          (c .before .before .before .before .before .before .before .before .inverses .ensures .1 w (l .i - 1) (omega arith))),
     )
 
 returns-2 : tie.Need-returns-2 Inv-loop μ-loop
 returns-2 c = record {
   long = c .before .loop .inv .1;
   stopped = λ e. absurd (never (sym e));
-  meets = λ p d e i h. c .before .loop .inv .2 p d i (omega arith) h;
+  meets = λ w e i h. c .before .loop .inv .2 w i (omega arith) h;
 }
 
 pub substituted-spec : {M : Type 1} → statement M
@@ -65,6 +61,7 @@ substituted-spec =
     (tie.spec
     Inv-loop
     μ-loop
+    (λ c κs. search needs)
     loop-holds
     (λ c. search needs)
     (λ c. search needs)
@@ -80,7 +77,8 @@ substituted-spec =
     (λ c. search needs)
     (λ c κs. search needs)
     (λ c κs. search needs)
-    (λ c κs. search needs)
+    (λ c. search needs)
+    (λ c. search needs)
     (λ c κs. search needs)
     (λ c. search needs)
     (λ c. search needs)

@@ -5,30 +5,30 @@ use Prim.Native.Nat.{ℕ, _-_, _≤_, _<_}
 use native.Mathlib.Omega.{arith}
 use lib.ListN.{length, getD, length-set}
 use Rattle.lists.proofs.Stores.{stored-more}
-use Rattle.column.specs.Solving.{mostEntries, element, cell, eliminated}
+use Rattle.column.specs.Solving.{mostEntries, element, differences}
 use borrow.Author.Needs.{needs}
 use Rattle.column.proofs.triangle.Statement.{statement}
 use Rattle.column.proofs.triangle.Tie as tie
 
 -- what row k of the triangle is
-abbrev Row : ℕ → ℕ → List ℕ → List (List ℕ) → ℕ → List ℕ → Type 0
-Row q r points powers k row = (i : ℕ) → i < r → element row i ≡ eliminated q (element points) i (cell powers k) 0
+abbrev Row : ℕ → ℕ → List ℕ → ℕ → List ℕ → Type 0
+Row q r points k row = (i : ℕ) → i < r → element row i ≡ differences q (element points) i (element points k)
 
 abbrev Inv-loop : tie.InvT-loop
-Inv-loop q r points powers out₀ j₀ out j =
-    (j ≤ r) × (length out ≡ mostEntries) × ((k : ℕ) → k < j → Row q r points powers k (getD out k []))
+Inv-loop q r points out₀ j₀ out j =
+    (j ≤ r) × (length out ≡ mostEntries) × ((k : ℕ) → k < j → Row q r points k (getD out k []))
 
 abbrev μ-loop : tie.MeasureT-loop
-μ-loop q r points powers out₀ j₀ out j = r - j
+μ-loop q r points out₀ j₀ out j = r - j
 
 loop-holds : tie.Need-loop-holds Inv-loop μ-loop
 loop-holds c = (search needs, search needs, λ k h. absurd (omega arith))
 
 loop-again : tie.Need-loop-again Inv-loop μ-loop
 loop-again c =
-    let l = c .before .before .before .loop in
-    let s = c .before .before .before .before .args in
-    (search needs, simp length-set (l .inv .1), stored-more (Row (s .q) (s .r) (s .points) (s .t4)) (l .out) (l .j) _ [] (omega arith) (l .inv .2) (c .eliminated .ensures))
+    let l = c .before .before .loop in
+    let s = c .before .before .before .args in
+    (search needs, simp length-set (l .inv .1), stored-more (Row (s .q) (s .r) (s .t3)) (l .out) (l .j) _ [] (omega arith) (l .inv .2) (c .factors .ensures))
 
 returns : tie.Need-returns Inv-loop μ-loop
 returns c = λ j i h k. c .before .loop .inv .2 j (omega arith) i k

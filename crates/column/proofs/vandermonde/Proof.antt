@@ -15,11 +15,11 @@ abbrev Row : ℕ → ℕ → List ℕ → ℕ → List ℕ → Type 0
 Row q r points k row = (t : ℕ) → t < r → element row t ≡ powerOf q (element points k) t
 
 abbrev Inv-loop : tie.InvT-loop
-Inv-loop q r count points out₀ j₀ out j =
-    (j ≤ count) × (length out ≡ mostEntries) × ((k : ℕ) → k < j → Row q r points k (getD out k []))
+Inv-loop q r points out₀ j₀ out j =
+    (j ≤ r) × (length out ≡ mostEntries) × ((k : ℕ) → k < j → Row q r points k (getD out k []))
 
 abbrev μ-loop : tie.MeasureT-loop
-μ-loop q r count points out₀ j₀ out j = count - j
+μ-loop q r points out₀ j₀ out j = r - j
 
 loop-holds : tie.Need-loop-holds Inv-loop μ-loop
 loop-holds c = (search needs, search needs, λ k h. absurd (omega arith))
@@ -28,7 +28,7 @@ loop-again : tie.Need-loop-again Inv-loop μ-loop
 loop-again c =
     let l = c .before .before .loop in
     let s = c .before .before .before .args in
-    (search needs, simp length-set (l .inv .1), stored-more (Row (s .q) (s .r) (s .t4)) (l .out) (l .j) _ [] (omega arith) (l .inv .2) (c .powers .ensures))
+    (search needs, simp length-set (l .inv .1), stored-more (Row (s .q) (s .r) (s .t3)) (l .out) (l .j) _ [] (omega arith) (l .inv .2) (c .powers .ensures))
 
 returns : tie.Need-returns Inv-loop μ-loop
 returns c = λ j t h k. c .before .loop .inv .2 j (omega arith) t k
