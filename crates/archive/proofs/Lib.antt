@@ -1,0 +1,2 @@
+-- Laws behind the C interface.
+pub mod Equations

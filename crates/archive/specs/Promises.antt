@@ -1,0 +1,55 @@
+-- What is promised of the C interface: the number that a C caller gets, and of the buffers what the call below promises.
+use mathlib.Core.Path.{_≡_}
+use mathlib.Core.Bool.{cond}
+use mathlib.Core.List.{List}
+use Prim.Native.Nat.{ℕ, _+_}
+use lib.Dec.{eqb}
+use lib.ListN.{length}
+use Rattle.shape.specs.declared.Shape.{Shape}
+use Rattle.shape.specs.Refusals.{numberOf}
+use Rattle.code.specs.declared.Checked.{Checked}
+use Rattle.code.specs.declared.Checked.the-variants as checked
+use Rattle.code.specs.Promises.{equationNumber}
+use Rattle.card.specs.declared.Header.{Header}
+use Rattle.card.specs.declared.Packed.{Packed}
+use Rattle.card.specs.declared.Packed.the-variants as packed
+use Rattle.card.specs.Cards.{Reading, refused, card, headerNumbers, headerCount, unpacked}
+use Rattle.card.specs.Promises.{symbolValues, readingNumber, readingSymbols}
+use Rattle.plan.specs.declared.Planned.{Planned}
+use Rattle.plan.specs.declared.Planned.the-variants as planned
+
+-- every call but unpack: what the call below promises holds of its answer, and the answer's number is returned
+pub record Returned {Answer : Type 0} (numberFor : Answer → ℕ) (promise : Answer → Type 0) (number : ℕ) : Type 0 where
+  pub answer : Answer
+  pub kept : promise answer
+  pub returned : number ≡ numberFor answer
+
+-- the shape that three numbers make
+abbrev pub shapeOf : ℕ → ℕ → ℕ → Shape
+shapeOf n k layers = record { n = n; k = k; layers = layers }
+
+-- the header that five numbers make
+abbrev pub headerFrom : ℕ → ℕ → ℕ → ℕ → ℕ → Header
+headerFrom n k layers node length = record { shape = shapeOf n k layers; node = node; length = length }
+
+-- ---- what a number says beside a refusal
+
+-- what check finds and how long a packed card is stand behind the numbers below this one, which are those of refusals
+abbrev pub firstFound : ℕ
+firstFound = 256
+
+-- 0 sound; a refusal's number; or 256 + e where equation e is the first unmet
+abbrev pub checkReturned : Shape → Checked → ℕ
+checkReturned s checked.Sound = 0
+checkReturned s (checked.Refused cause) = numberOf cause
+checkReturned s (checked.Unmet layer a t) = firstFound + equationNumber s layer a t
+
+-- a refusal's number, or 256 + the card's length
+abbrev pub packReturned : Packed → ℕ
+packReturned (packed.Refused cause) = numberOf cause
+packReturned (packed.Card long) = firstFound + long
+
+-- the text's length, 0 where the text buffer is too short
+abbrev pub planReturned : Planned → ℕ
+planReturned (planned.Refused cause) = 0
+planReturned (planned.Text long) = long
