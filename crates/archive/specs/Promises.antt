@@ -53,3 +53,25 @@ packReturned (packed.Card long) = firstFound + long
 abbrev pub planReturned : Planned → ℕ
 planReturned (planned.Refused cause) = 0
 planReturned (planned.Text long) = long
+
+-- ---- unpack
+
+-- the symbols that unpacking has room for; a header buffer of another length than five has none, and is turned back with 4
+unfoldable pub unpackRoom : ℕ → ℕ → ℕ
+unpackRoom header symbols = cond (eqb header headerCount) symbols 0
+
+-- a card read into a buffer of symbols and one of header numbers
+unfoldable pub unpackedInto : List ℕ → List ℕ → List ℕ → Reading
+unpackedInto bytes symbols header = unpacked symbolValues bytes (unpackRoom (length header) (length symbols))
+
+-- the header's buffer behind a reading
+unfoldable pub readingHeader : List ℕ → Reading → List ℕ
+readingHeader before (refused number) = before
+readingHeader before (card h symbols) = headerNumbers h
+
+pub record UnpackReturned (bytes symbols symbols-after header header-after : List ℕ) (number : ℕ) : Type 0 where
+  pub returned : number ≡ readingNumber (unpackedInto bytes symbols header)
+  pub symbols-buffer : symbols-after ≡ readingSymbols symbols (unpackedInto bytes symbols header)
+  pub header-buffer : header-after ≡ readingHeader header (unpackedInto bytes symbols header)
+  -- work is done into a header buffer of the exact length alone
+  pub five : number ≡ 0 → length header ≡ headerCount
