@@ -1,7 +1,7 @@
 -- A packed card is short; a card unpacked into a buffer for its symbols and one for its header.
 use mathlib.Core.Path.{_≡_, refl, sym, ap, _∙_}
 use mathlib.Core.List.{List, [], _∷_, _++_, append-nil}
-use Prim.Native.Nat.{ℕ, zero, suc, _+_, _*_, _^_, _≤_, _<_}
+use Prim.Native.Nat.{ℕ, zero, suc, _+_, _*_, _^_, _≤_}
 use native.Mathlib.Decide.{ℕ-discrete}
 use native.Mathlib.Omega.{arith}
 use mathlib.Core.Logic.{_≢_}
@@ -21,7 +21,7 @@ use Rattle.card.specs.declared.Packed.the-variants as pack
 use Rattle.card.specs.declared.Unpacked.{Unpacked}
 use Rattle.card.specs.declared.Unpacked.the-variants as unpack
 use Rattle.card.specs.Numbers.{Numbers, values, broken, readNumbers}
-use Rattle.card.specs.Cards.{headerNumbers, headerOf, headerCount, headerRefusal, cardBytes, cardRoom, packRefusal, Symbols, bad, got, readSymbols, Reading, refused, card, judged, withHeader, unpacked}
+use Rattle.card.specs.Cards.{headerNumbers, headerOf, headerCount, headerRefusal, cardBytes, cardRoom, packRefusal, Symbols, readSymbols, refused, card, judged, withHeader, unpacked}
 use Rattle.card.specs.Promises.{symbolValues, packedNumber, packedValues, readingOf, readingNumber, readingSymbols, Packs, Unpacks}
 use Rattle.card.proofs.Judging.{header-accepted, pack-accepted}
 use Rattle.card.proofs.Cards.{card-fits}

@@ -2,8 +2,7 @@
 use mathlib.Core.Path.{_≡_, sym, ap, _∙_}
 use mathlib.Core.Bool.{false}
 use mathlib.Core.List.{List}
-use Prim.Native.Nat.{ℕ, _+_, _-_, _*_, _^_, _≤_, _<_}
-use native.Mathlib.Nat.{mul-le-mul}
+use Prim.Native.Nat.{ℕ, _+_, _-_, _*_, _^_, _<_}
 use native.Mathlib.Omega.{arith}
 use lib.Arith.{digits-lt}
 use Rattle.shape.specs.declared.Shape.{Shape}
@@ -12,9 +11,8 @@ use Rattle.shape.specs.Refusals.{shapeBad}
 use Rattle.shape.proofs.Accepted.{Shaped, passed, shape-accepted}
 use Rattle.code.specs.declared.Checked.{Checked}
 use Rattle.code.specs.declared.Checked.the-variants.{Unmet}
-use Rattle.code.specs.Code.{narrow}
 use Rattle.code.specs.Refusals.{checkRefusal}
-use Rattle.code.specs.Promises.{checkedNumber, equationNumber, FirstUnmet, Checks}
+use Rattle.code.specs.Promises.{checkedNumber, equationNumber, Checks}
 
 -- equation t at (layer, a) is one of the shape's
 pub record Within (s : Shape) (layer a t : ℕ) : Type 0 where

@@ -18,9 +18,9 @@ use Rattle.card.specs.Promises.{symbolValues, readingNumber, readingSymbols}
 use Rattle.plan.specs.declared.Planned.{Planned}
 use Rattle.plan.specs.declared.Planned.the-variants as planned
 
--- every call but unpack: what the call below promises holds of its answer, and the answer's number is returned
-pub record Returned {Answer : Type 0} (numberFor : Answer → ℕ) (promise : Answer → Type 0) (number : ℕ) : Type 0 where
-  pub answer : Answer
+-- every call but unpack: the promise of the call below holds of an answer, and the number returned is that answer's, which the promise fixes
+pub record Returned {A : Type 0} (numberFor : A → ℕ) (promise : A → Type 0) (number : ℕ) : Type 0 where
+  pub answer : A
   pub kept : promise answer
   pub returned : number ≡ numberFor answer
 
@@ -34,7 +34,7 @@ headerFrom n k layers node length = record { shape = shapeOf n k layers; node = 
 
 -- ---- what a number says beside a refusal
 
--- what check finds and how long a packed card is stand behind the numbers below this one, which are those of refusals
+-- what check finds and the length of a packed card stand behind the numbers below this one, which are refusals'
 abbrev pub firstFound : ℕ
 firstFound = 256
 
@@ -56,7 +56,8 @@ planReturned (planned.Text long) = long
 
 -- ---- unpack
 
--- the symbols that unpacking has room for; a header buffer of another length than five has none, and is turned back with 4
+-- the symbols that unpacking has room for: beside a header buffer of another length, none. A card has symbols, so it is then turned back with 4
+-- where "the size of the lent buffer" is judged
 unfoldable pub unpackRoom : ℕ → ℕ → ℕ
 unpackRoom header symbols = cond (eqb header headerCount) symbols 0
 
@@ -64,14 +65,15 @@ unpackRoom header symbols = cond (eqb header headerCount) symbols 0
 unfoldable pub unpackedInto : List ℕ → List ℕ → List ℕ → Reading
 unpackedInto bytes symbols header = unpacked symbolValues bytes (unpackRoom (length header) (length symbols))
 
--- the header's buffer behind a reading
+-- the header's buffer behind a reading: "n, k, L, node number, transcript length"
 unfoldable pub readingHeader : List ℕ → Reading → List ℕ
 readingHeader before (refused number) = before
 readingHeader before (card h symbols) = headerNumbers h
 
+-- unpacking into two buffers
 pub record UnpackReturned (bytes symbols symbols-after header header-after : List ℕ) (number : ℕ) : Type 0 where
   pub returned : number ≡ readingNumber (unpackedInto bytes symbols header)
   pub symbols-buffer : symbols-after ≡ readingSymbols symbols (unpackedInto bytes symbols header)
   pub header-buffer : header-after ≡ readingHeader header (unpackedInto bytes symbols header)
-  -- work is done into a header buffer of the exact length alone
+  -- a call that does its work has a header buffer of the exact length
   pub five : number ≡ 0 → length header ≡ headerCount

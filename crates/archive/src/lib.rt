@@ -1,4 +1,4 @@
-// The C interface: each function hands its numbers and buffers to the call of that name, and returns a number.
+// The C interface: each function hands its numbers and buffers to the call of that name, and returns a number. It demands nothing of the numbers and buffers that it is handed.
 use card::Header;
 use card::Packed;
 use card::Unpacked;
@@ -20,11 +20,11 @@ ghost use Rattle.card.specs.Promises.{Packs};
 ghost use Rattle.plan.specs.Promises.{Plans};
 ghost use Rattle.archive.specs.Promises.{Returned, shapeOf, headerFrom, checkReturned, packReturned, planReturned, unpackRoom, UnpackReturned};
 
-// What check and pack find is returned behind the numbers below this one, which are those of refusals.
+// What check and pack find is returned behind the numbers below this one, which are refusals'.
 const FIRST_FOUND: usize = 256;
 
 // The numbers of a card's header: n, k, layers, node, length.
-const HEADER: usize = 5;
+const HEADER_COUNT: usize = 5;
 
 // What a call that does its work or turns back returns to C.
 fn answer_number(answer: Answer) -> usize
@@ -107,23 +107,6 @@ pub extern "C" fn archive_open(
     answer_number(code::open(s, list, symbols, length, transcript))
 }
 
-// A whole repair on one archive, with every message left on the wire.
-#[no_mangle]
-pub extern "C" fn archive_repair(
-    n: usize,
-    k: usize,
-    layers: usize,
-    dead: &[usize],
-    helpers: &[usize],
-    nodes: &mut [u16],
-    wire: &mut [u16],
-) -> usize
-    ensures { λ r. ⌜ Returned answerNumber (Repaired (shapeOf n k layers) (now (dead .entry)) (now (helpers .entry)) (now (nodes .entry)) (now (nodes .exit)) (now (wire .entry)) (now (wire .exit))) r ⌝ }
-{
-    let s = Shape { n, k, layers };
-    answer_number(repair::repair(s, dead, helpers, nodes, wire))
-}
-
 // A helper's message to a new node.
 #[no_mangle]
 pub extern "C" fn archive_helper_message(
@@ -181,6 +164,23 @@ pub extern "C" fn archive_second_step(
     answer_number(repair::second_step(s, dead, helpers, new, pairs, received, symbols))
 }
 
+// A whole repair on one archive, every message left on the wire.
+#[no_mangle]
+pub extern "C" fn archive_repair(
+    n: usize,
+    k: usize,
+    layers: usize,
+    dead: &[usize],
+    helpers: &[usize],
+    nodes: &mut [u16],
+    wire: &mut [u16],
+) -> usize
+    ensures { λ r. ⌜ Returned answerNumber (Repaired (shapeOf n k layers) (now (dead .entry)) (now (helpers .entry)) (now (nodes .entry)) (now (nodes .exit)) (now (wire .entry)) (now (wire .exit))) r ⌝ }
+{
+    let s = Shape { n, k, layers };
+    answer_number(repair::repair(s, dead, helpers, nodes, wire))
+}
+
 // A node's card: a refusal's number, or the card's length behind FIRST_FOUND.
 #[no_mangle]
 pub extern "C" fn archive_pack(
@@ -206,11 +206,11 @@ pub extern "C" fn archive_pack(
     }
 }
 
-// The symbols that unpacking has room for: none where the header's buffer is not of its length, so that 4 comes in its place.
+// The symbols that unpacking has room for: none where the header's buffer is of another length. Every card has symbols, so 4 then comes in its place among the causes.
 fn unpack_room(header: usize, symbols: usize) -> usize
     ensures { λ r. ⌜ r ≡ unpackRoom header symbols ⌝ }
 {
-    if header == HEADER { symbols } else { 0 }
+    if header == HEADER_COUNT { symbols } else { 0 }
 }
 
 // A header's numbers, in the order in which a card has them.

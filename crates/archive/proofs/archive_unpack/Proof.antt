@@ -1,6 +1,5 @@
 -- `archive::archive_unpack` meets its contract: the part of the symbols' buffer comes back in place, and the header's buffer has five numbers. Assumes nothing.
-use mathlib.Core.Path.{sym, ap, _∙_}
-use native.Mathlib.Omega.{arith}
+use mathlib.Core.Path.{sym}
 use borrow.Author.Needs.{needs}
 use lib.Seq.{length-take-le}
 use Rattle.archive.proofs.Cards.{room-within, unpack-refused, header-five, unpack-done}
