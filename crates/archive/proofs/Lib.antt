@@ -1,0 +1,3 @@
+-- Laws behind the C interface.
+pub mod Equations
+pub mod Cards

@@ -1,0 +1,2 @@
+-- The promises of the C interface.
+pub mod Promises
