@@ -1,16 +1,17 @@
 -- The terms of a parity equation: each times its point is the term of the next.
 use mathlib.Core.Path.{_≡_, refl, sym, ap, _∙_}
-use mathlib.Core.List.{List}
-use Prim.Native.Nat.{ℕ, _+_, _*_, _%_, _^_, _<_}
+use mathlib.Core.List.{List, _++_}
+use Prim.Native.Nat.{ℕ, _+_, _*_, _%_, _^_, _≤_, _<_}
 use native.Mathlib.Nat.{pow-zero, pow-suc, mod-mod}
 use native.Mathlib.Numerals.{add-one}
 use native.Mathlib.Omega.{arith}
-use lib.ListN.{length, getD}
+use lib.ListN.{length, getD, take, drop, length-append, length-drop}
+use lib.Seq.{getD-take, take-at, length-take-le}
 use Rattle.lists.specs.Sums.{sum}
-use Rattle.lists.proofs.Sums.{sum-mod}
+use Rattle.lists.proofs.Sums.{sum-ext, sum-mod}
 use Rattle.field.proofs.Residues.{mod-mul-mod}
 use Rattle.column.specs.Column.{parity}
-use Rattle.column.specs.Solving.{element}
+use Rattle.column.specs.Solving.{element, Advanced}
 
 turned : (a b c : ℕ) → a * b * c ≡ a * c * b
 turned a b c = omega arith
@@ -30,3 +31,19 @@ module _ (q : ℕ) (points column : List ℕ) where
       → sum (length points) (element terms) % q ≡ parity q points column t
   unfolding parity
   terms-total t terms h = sum-mod q (length points) _ _ h
+
+  -- the terms that were lent come back in front of the rest of their array
+  module _ (terms last : List ℕ) (total : ℕ) (few : length points ≤ length terms) (w : Advanced q points (take (length points) terms) last total) where
+    lent : length last ≡ length points
+    lent = w .long ∙ length-take-le _ _ few
+
+    pub terms-long : length (last ++ drop (length points) terms) ≡ length terms
+    terms-long = simp (length-append, length-drop, lent) (omega arith)
+
+    pub terms-next : (i : ℕ) → i < length points → element (last ++ drop (length points) terms) i ≡ (element terms i * element points i) % q
+    terms-next i h =
+        sym (getD-take (length points) (last ++ drop (length points) terms) i 0 h) ∙ ap (λ l. getD l i 0) (take-at last (drop (length points) terms) (length points) lent)
+        ∙ w .next i h ∙ ap (λ x. (x * element points i) % q) (getD-take (length points) terms i 0 h)
+
+    pub terms-added : total ≡ sum (length points) (element terms) % q
+    terms-added = w .added ∙ ap (λ x. x % q) (sum-ext (length points) _ _ (λ i l. getD-take (length points) terms i 0 l))

@@ -100,6 +100,12 @@ pub record Substituted (q r : ℕ) (triangle : List (List ℕ)) (right : List �
   pub stopped : s .outcome ≡ ZeroDivisor → (i : ℕ) × (i < r) × (cell triangle i i ≡ 0)
   pub meets : Pivots q r triangle → s .outcome ≡ Solved → (i : ℕ) → i < r → Meets q r triangle right (s .values) i
 
+-- the sum of an equation's terms, and the terms of the next equation
+pub record Advanced (q : ℕ) (points before after : List ℕ) (total : ℕ) : Type 0 where
+  pub added : total ≡ sum (length points) (element before) % q
+  pub long : length after ≡ length before
+  pub next : (i : ℕ) → i < length points → element after i ≡ (element before i * element points i) % q
+
 -- values stored at listed entries of a column, the other entries as they were
 pub record Scattered (list values before after : List ℕ) : Type 0 where
   pub long : length after ≡ length before

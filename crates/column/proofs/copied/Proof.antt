@@ -30,7 +30,7 @@ loop-again c =
     )
 
 returns : tie.Need-returns Inv-loop μ-loop
-returns c = λ k h. c .before .loop .inv .3 k (omega arith)
+returns c = (c .before .loop .inv .2, λ k h. c .before .loop .inv .3 k (omega arith))
 
 pub copied-spec : {M : Type 1} → statement M
 copied-spec =
