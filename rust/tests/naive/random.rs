@@ -75,17 +75,12 @@ impl Random {
         self.some_of(&all, count)
     }
 
-    /// A shape in range whose n × N is not above the bound.
+    /// Any n and k in range, and layers that keep n × N within the bound, but at least one.
     pub fn shape(&mut self, bound: usize) -> Shape {
-        loop {
-            let n = self.between(3, 12);
-            let k = self.between(1, n - 2);
-            let layers = self.between(1, 15);
-            let shape = Shape { n, k, layers };
-            if n * shape.symbols() <= bound {
-                return shape;
-            }
-        }
+        let n = self.between(3, 12);
+        let k = self.between(1, n - 2);
+        let most_layers = (bound / (n << n)).clamp(1, 15);
+        Shape { n, k, layers: self.between(1, most_layers) }
     }
 
     /// Dead nodes and helpers of an accepted repair, but perhaps for the layers.
@@ -102,5 +97,65 @@ impl Random {
         let list: Vec<usize> = (0..shape.k).collect();
         let data = self.symbols(shape.capacity());
         restore(shape, &list, &data, shape.n * shape.symbols()).unwrap()
+    }
+
+    /// A number that is out of range or far off wherever it stands for the given one.
+    pub fn hostile(&mut self, number: usize) -> usize {
+        let low = number.wrapping_sub(1);
+        let truncates = number.wrapping_add(1 << self.choose(&[8, 16, 32, 63]));
+        let far = self.choose(&[0, 2, 13, 16, 64, 255, 256, 65535, usize::MAX, usize::MAX / 2 + 1]);
+        self.choose(&[low, number + 1, truncates, far])
+    }
+
+    pub fn spoil_shape(&mut self, shape: &mut Shape) {
+        match self.below(3) {
+            0 => shape.n = self.hostile(shape.n),
+            1 => {
+                shape.k = {
+                    let far = self.hostile(shape.k);
+                    self.choose(&[far, shape.n - 1, shape.n, 0])
+                }
+            }
+            _ => {
+                shape.layers = {
+                    let far = self.hostile(shape.layers);
+                    self.choose(&[far, 0, 16, 17])
+                }
+            }
+        }
+    }
+
+    pub fn spoil_length(&mut self, length: &mut usize) {
+        *length = match self.below(4) {
+            0 => length.saturating_sub(1),
+            1 => *length + 1,
+            2 => 0,
+            _ => *length * 2 + 1,
+        };
+    }
+
+    /// Changes the list in one of the ways a list can be wrong.
+    pub fn spoil_list(&mut self, n: usize, list: &mut Vec<usize>) {
+        let index = self.below(list.len());
+        match self.below(7) {
+            0 => {
+                list[index] = self.choose(&[n, n + 1, usize::MAX, 1 << 32, (1 << 32) + list[index], 256 + list[index]])
+            }
+            1 => list.push(self.below(n)),
+            2 => drop(list.remove(index)),
+            3 => list.insert(index, list[index]),
+            4 => list.reverse(),
+            5 => list[index] = self.below(n),
+            _ => *list = Vec::new(),
+        }
+    }
+
+    /// Puts a value above 256 somewhere, both ends more often.
+    pub fn spoil_symbols(&mut self, symbols: &mut [u16]) {
+        if !symbols.is_empty() {
+            let last = symbols.len() - 1;
+            let index = self.below(symbols.len());
+            symbols[self.choose(&[0, last, index, index])] = self.choose(&[257, 258, 511, 512, 513, 32768, 65535]);
+        }
     }
 }
