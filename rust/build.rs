@@ -15,6 +15,8 @@ fn main() {
         );
         process::exit(1);
     }
+    // The test of the C example links the same library.
+    println!("cargo:rustc-env=ARCHIVE_LIBRARY={}", library.display());
     println!("cargo:rustc-link-search=native={}", directory.display());
     println!("cargo:rustc-link-lib=static=archive");
 }

@@ -27,10 +27,11 @@
 //! # Ok::<(), archive::Refusal>(())
 //! ```
 #![warn(missing_docs)]
-#![deny(unsafe_op_in_unsafe_fn)]
+#![deny(unsafe_code, unsafe_op_in_unsafe_fn)]
 
 mod card;
 mod code;
+#[allow(unsafe_code)]
 mod ffi;
 mod plan;
 mod refusal;

@@ -78,7 +78,7 @@ impl Shape {
 
     /// N/(h+1), the symbols of each message in a repair of h dead nodes.
     pub fn message_symbols(&self, dead_count: usize) -> Result<usize, Refusal> {
-        if self.layers % self.batch_layers(dead_count)? != 0 {
+        if !self.layers.is_multiple_of(self.batch_layers(dead_count)?) {
             return Err(Refusal::PartBatch);
         }
         Ok(self.node_symbols()? / (dead_count + 1))
