@@ -68,13 +68,14 @@ impl Args {
         self.number(name)?.ok_or_else(|| Failure::Usage(format!("{name} is missing")))
     }
 
-    /// An option's node numbers, rising, where they are given.
+    /// An option's node numbers, rising and each once, where they are given.
     pub fn list(&self, name: &str) -> Result<Option<Vec<usize>>, Failure> {
         let Some(value) = self.option(name) else {
             return Ok(None);
         };
         let mut nodes = value.split(',').map(|node| number(name, node.trim())).collect::<Result<Vec<_>, _>>()?;
         nodes.sort_unstable();
+        nodes.dedup();
         Ok(Some(nodes))
     }
 

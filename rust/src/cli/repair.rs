@@ -19,10 +19,7 @@ pub fn repair(
     directory: &Path, named_dead: Option<Vec<usize>>, named_helpers: Option<Vec<usize>>,
 ) -> Result<String, Failure> {
     let cards = Cards::load(directory)?;
-    cards.need(
-        cards.shape.data + 1,
-        "with the data nodes' number of cards, open the transcript and write it anew into another directory",
-    )?;
+    cards.need(cards.shape.data + 1, too_few_advice(&cards))?;
     cards.agree()?;
     let dead = chosen_dead(&cards, named_dead)?;
     let helpers = chosen_helpers(&cards, named_helpers)?;
@@ -32,6 +29,14 @@ pub fn repair(
     let (nodes, report) = repaired(&cards, &dead, &helpers)?;
     put_cards(&cards, &dead, &nodes)?;
     Ok(report + &format!("made {}\n", names(&cards, &dead)))
+}
+
+/// What can be done with fewer cards than a repair needs.
+fn too_few_advice(cards: &Cards) -> &'static str {
+    if cards.present().len() < cards.shape.data {
+        return "find more of them";
+    }
+    "they still open: open the transcript, and write it anew into another directory"
 }
 
 /// Only absent nodes are repaired, so that no readable card is written over.
@@ -74,15 +79,15 @@ fn no_such_node(cards: &Cards, node: usize) -> Failure {
 /// go is repaired in several.
 fn repaired(cards: &Cards, dead: &[usize], helpers: &[usize]) -> Result<(Vec<u16>, String), Failure> {
     let shape = cards.shape;
+    let advice = format!("name exactly {} helpers", shape.data + 1);
+    let refused = |refusal| Failure::refused("the repair cannot be made", refusal, &advice);
     let mut nodes = cards.symbols_of(&(0..shape.nodes).collect::<Vec<_>>());
     let mut report = String::new();
     let mut rest = dead;
     while !rest.is_empty() {
         let (now, later) = rest.split_at(in_one_go(shape, rest.len()));
+        shape.repair_nodes(now, helpers, &mut nodes).map_err(refused)?;
         report += &plan_described(shape, now, helpers)?;
-        shape
-            .repair_nodes(now, helpers, &mut nodes)
-            .map_err(|refusal| Failure::refused("the repair is refused", refusal, "name other --dead or --helpers"))?;
         rest = later;
     }
     Ok((nodes, report))
