@@ -26,6 +26,6 @@ fn directory() -> PathBuf {
     let package = PathBuf::from(env::var_os("CARGO_MANIFEST_DIR").expect("cargo names the package"));
     match env::var_os("ARCHIVE_LIB_DIR") {
         Some(given) => package.join(given),
-        None => package.join("../target/staticlib"),
+        None => package.with_file_name("target").join("staticlib"),
     }
 }

@@ -13,16 +13,10 @@
 //!
 //! let shape = Shape::new(4, 1, 3)?;
 //! let mut nodes = shape.write_to_nodes(b"the witness was sworn")?;
-//! let written = nodes.clone();
-//!
-//! // Nodes 0 and 1 are lost, and refilled with the help of nodes 2 and 3.
 //! let n = shape.node_symbols()?;
-//! nodes[..2 * n].fill(0);
-//! shape.repair_nodes(&[0, 1], &[2, 3], &mut nodes)?;
-//! assert_eq!(nodes, written);
-//!
-//! // Any one node gives the transcript back: here node 3.
-//! let transcript = shape.open_to_vec(&[3], &nodes[3 * n..], 21)?;
+//! nodes[..2 * n].fill(0); // nodes 0 and 1 are lost
+//! shape.repair_nodes(&[0, 1], &[2, 3], &mut nodes)?; // nodes 2 and 3 help
+//! let transcript = shape.open_to_vec(&[0], &nodes[..n], 21)?; // from node 0 alone
 //! assert_eq!(transcript, b"the witness was sworn");
 //! # Ok::<(), archive::Refusal>(())
 //! ```

@@ -76,7 +76,7 @@ impl Cards {
         let path = card_path(&self.directory, named);
         if (header.shape, header.length) != (self.shape, self.length) {
             return Err(Failure::Work(format!(
-                "{} is of another archive ({}) than most cards here ({}): move it away",
+                "{} is of another archive ({}) than others here ({}): keep the cards of one archive in a directory",
                 path.display(),
                 described(header.shape, header.length),
                 described(self.shape, self.length)

@@ -39,11 +39,11 @@ pub fn run() -> Result<String, Failure> {
     Ok(report.replace(&format!("{}/", place.0.display()), ""))
 }
 
-/// A hearing, so long that three layers are needed for it.
+/// A made-up hearing.
 fn sample() -> String {
     let line = |number: usize| match number % 3 {
         0 => format!("{number:05}  Q.  Where were you at page {}?\n", number / 25),
-        1 => format!("{number:05}  A.  At the ditch, counsel, as I said before.\n"),
+        1 => format!("{number:05}  A.  At the office, counsel, as I said before.\n"),
         _ => format!("{number:05}      THE COURT: Let the record show it.\n"),
     };
     (0..LINES).map(line).collect()

@@ -71,7 +71,7 @@ fn too_long(nodes: usize, data: usize) -> Failure {
     match most_bytes(nodes, data) {
         Ok(most) => Failure::Work(format!(
             "the transcript is too long: an archive with --nodes {nodes} --data {data} holds at most {most} bytes; \
-             split it, or use more nodes"
+             split it, or use more data nodes"
         )),
         Err(failure) => failure,
     }
