@@ -36,7 +36,7 @@ A transcript spread over drives, any k of which give it back, and lost ones refi
   archive demo       write, lose, repair and open an archive in a temporary directory
   archive --help     this text
 
-Exit status: 0, or 1 and one line on standard error; no file is written over or left half written.
+Exit status: 0, or 1 and one line on standard error; nothing is left half written.
 ";
 
 /// Runs the command that the arguments name.
