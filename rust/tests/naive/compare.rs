@@ -1,56 +1,11 @@
 //! One call of the library beside the naive one: the same number or result, and every lent buffer, which held garbage
 //! before, is afterwards exactly what it has to be. Each function returns the number, 0 where the call did its work.
+#![allow(dead_code)] // each test program uses a part of it
 
+use super::naive::lent::Lent;
 use super::naive::random::Random;
 use super::naive::{self, Header, Number, Shape};
 use archive::{Checked, Refusal};
-use std::fmt::Debug;
-
-/// Elements on both sides of a lent slice, which no call may touch.
-const MARGIN: usize = 8;
-
-/// A lent buffer, and what was in and around it before.
-pub struct Lent<T> {
-    before: Vec<T>,
-    now: Vec<T>,
-}
-
-impl Lent<u16> {
-    pub fn garbage(random: &mut Random, length: usize) -> Self {
-        Lent::around(&random.garbage(length))
-    }
-
-    pub fn around(symbols: &[u16]) -> Self {
-        Lent::new([&[65535; MARGIN], symbols, &[4711; MARGIN]].concat())
-    }
-}
-
-impl Lent<u8> {
-    pub fn garbage(random: &mut Random, length: usize) -> Self {
-        Lent::new(random.bytes(length + 2 * MARGIN))
-    }
-}
-
-impl<T: Copy + PartialEq + Debug> Lent<T> {
-    fn new(now: Vec<T>) -> Self {
-        Lent { before: now.clone(), now }
-    }
-
-    pub fn slice(&mut self) -> &mut [T] {
-        let end = self.now.len() - MARGIN;
-        &mut self.now[MARGIN..end]
-    }
-
-    /// What the call made stands at the front of the slice (nothing where it turned back), and all else is as it was.
-    pub fn assert_holds(mut self, made: &[T]) {
-        self.before[MARGIN..MARGIN + made.len()].copy_from_slice(made);
-        let difference = (0..self.now.len()).find(|&index| self.now[index] != self.before[index]);
-        if let Some(index) = difference {
-            let (now, expected) = (self.now[index], self.before[index]);
-            panic!("at {} of the buffer: {now:?}, expected {expected:?}", index as isize - MARGIN as isize);
-        }
-    }
-}
 
 fn library(shape: Shape) -> archive::Shape {
     archive::Shape { nodes: shape.n, data: shape.k, layers: shape.layers }
@@ -72,7 +27,7 @@ fn agreed<T, U: Default>(answer: Result<T, Refusal>, expected: Result<U, Number>
 }
 
 pub fn write(random: &mut Random, shape: Shape, transcript: &[u8], nodes_length: usize) -> Number {
-    let mut nodes = Lent::<u16>::garbage(random, nodes_length);
+    let mut nodes = Lent::symbols(random, nodes_length);
     let answer = library(shape).write(transcript, nodes.slice());
     let (number, made) = agreed(answer, naive::write(shape, transcript, nodes_length));
     nodes.assert_holds(&made);
@@ -94,7 +49,7 @@ pub fn check(shape: Shape, nodes: &[u16]) -> Number {
 }
 
 pub fn restore(random: &mut Random, shape: Shape, list: &[usize], symbols: &[u16], nodes_length: usize) -> Number {
-    let mut nodes = Lent::<u16>::garbage(random, nodes_length);
+    let mut nodes = Lent::symbols(random, nodes_length);
     let answer = library(shape).restore(list, symbols, nodes.slice());
     let (number, made) = agreed(answer, naive::restore(shape, list, symbols, nodes_length));
     nodes.assert_holds(&made);
@@ -104,7 +59,7 @@ pub fn restore(random: &mut Random, shape: Shape, list: &[usize], symbols: &[u16
 pub fn open(
     random: &mut Random, shape: Shape, list: &[usize], symbols: &[u16], length: usize, transcript_length: usize,
 ) -> Number {
-    let mut transcript = Lent::<u8>::garbage(random, transcript_length);
+    let mut transcript = Lent::bytes(random, transcript_length);
     let answer = library(shape).open(list, symbols, length, transcript.slice());
     let (number, made) = agreed(answer, naive::open(shape, list, symbols, length, transcript_length));
     transcript.assert_holds(&made);
@@ -123,7 +78,7 @@ pub fn helper_message(
     random: &mut Random, lists: &Lists, helper: usize, new: usize, symbols: &[u16], message_length: usize,
 ) -> Number {
     let Lists { shape, dead, helpers } = lists;
-    let mut message = Lent::<u16>::garbage(random, message_length);
+    let mut message = Lent::symbols(random, message_length);
     let answer = library(*shape).helper_message(dead, helpers, helper, new, symbols, message.slice());
     let expected = naive::helper_message(*shape, dead, helpers, helper, new, symbols, message_length);
     let (number, made) = agreed(answer, expected);
@@ -135,8 +90,8 @@ pub fn first_step(
     random: &mut Random, lists: &Lists, new: usize, messages: &[u16], pairs_length: usize, sums_length: usize,
 ) -> Number {
     let Lists { shape, dead, helpers } = lists;
-    let mut pairs = Lent::<u16>::garbage(random, pairs_length);
-    let mut sums = Lent::<u16>::garbage(random, sums_length);
+    let mut pairs = Lent::symbols(random, pairs_length);
+    let mut sums = Lent::symbols(random, sums_length);
     let answer = library(*shape).first_step(dead, helpers, new, messages, pairs.slice(), sums.slice());
     let expected = naive::first_step(*shape, dead, helpers, new, messages, pairs_length, sums_length);
     let (number, made) = agreed(answer, expected);
@@ -149,7 +104,7 @@ pub fn second_step(
     random: &mut Random, lists: &Lists, new: usize, pairs: &[u16], received: &[u16], symbols_length: usize,
 ) -> Number {
     let Lists { shape, dead, helpers } = lists;
-    let mut symbols = Lent::<u16>::garbage(random, symbols_length);
+    let mut symbols = Lent::symbols(random, symbols_length);
     let answer = library(*shape).second_step(dead, helpers, new, pairs, received, symbols.slice());
     let expected = naive::second_step(*shape, dead, helpers, new, pairs, received, symbols_length);
     let (number, made) = agreed(answer, expected);
@@ -160,7 +115,7 @@ pub fn second_step(
 pub fn repair(random: &mut Random, lists: &Lists, before: &[u16], wire_length: usize) -> Number {
     let Lists { shape, dead, helpers } = lists;
     let mut nodes = Lent::around(before);
-    let mut wire = Lent::<u16>::garbage(random, wire_length);
+    let mut wire = Lent::symbols(random, wire_length);
     let answer = library(*shape).repair(dead, helpers, nodes.slice(), wire.slice());
     let (number, made) = agreed(answer, naive::repair(*shape, dead, helpers, before, wire_length));
     nodes.assert_holds(&made.0);
@@ -169,7 +124,7 @@ pub fn repair(random: &mut Random, lists: &Lists, before: &[u16], wire_length: u
 }
 
 pub fn pack(random: &mut Random, header: Header, symbols: &[u16], card_length: usize) -> Number {
-    let mut card = Lent::<u8>::garbage(random, card_length);
+    let mut card = Lent::bytes(random, card_length);
     let answer = library(header.shape).pack(header.node, header.length, symbols, card.slice());
     let (number, made) = agreed(answer, naive::pack(header, symbols, card_length));
     assert_eq!(answer.unwrap_or(0), made.len());
@@ -180,8 +135,8 @@ pub fn pack(random: &mut Random, header: Header, symbols: &[u16], card_length: u
 /// The library's header buffer has five numbers and is judged with the symbols' buffer: in document 01's terms, a wrong
 /// one is a lent buffer not of the exact length.
 pub fn unpack(random: &mut Random, card: &[u8], symbols_length: usize, header_length: usize) -> Number {
-    let mut symbols = Lent::<u16>::garbage(random, symbols_length);
-    let mut header = Lent::new(vec![4711; header_length + 2 * MARGIN]);
+    let mut symbols = Lent::symbols(random, symbols_length);
+    let mut header = Lent::numbers(header_length);
     let answer = archive::unpack_into(card, symbols.slice(), header.slice());
     let exact = if header_length == 5 { symbols_length } else { usize::MAX };
     let expected = naive::unpack(card, exact).map(|(header, symbols)| {
@@ -196,7 +151,7 @@ pub fn unpack(random: &mut Random, card: &[u8], symbols_length: usize, header_le
 
 /// The number that the plan's text is, and 0 for a plan; 4 where the text buffer is too short.
 pub fn plan(random: &mut Random, input: &[u8], text_length: usize) -> Number {
-    let mut text = Lent::<u8>::garbage(random, text_length);
+    let mut text = Lent::bytes(random, text_length);
     let answer = archive::plan(input, text.slice());
     let printed = naive::plan(input);
     assert!(printed.len() <= archive::PLAN_TEXT);

@@ -8,6 +8,7 @@ pub mod card;
 pub mod code;
 pub mod field;
 pub mod judge;
+pub mod lent;
 pub mod plan;
 pub mod random;
 pub mod repair;
