@@ -16,11 +16,12 @@ const SHAPES: [(usize, usize, usize); 5] = [(6, 4, 3), (12, 6, 15), (12, 6, 1), 
 const DEAD_COUNTS: [usize; 3] = [1, 2, 3];
 
 /// A line goes on until it has so many runs of each side, or else the least number and this time.
-const MOST_RUNS: usize = 101;
-const LEAST_RUNS: usize = 5;
+const MOST_RUNS: usize = 501;
+const LEAST_RUNS: usize = 7;
 const LINE_TIME: Duration = Duration::from_millis(700);
-/// A run repeats a short call until it lasts so long.
-const RUN_TIME: Duration = Duration::from_millis(2);
+/// A run repeats a short call until it lasts so long: short beside the turns that other programs take of a processor, so
+/// that most runs are not interrupted.
+const RUN_TIME: Duration = Duration::from_micros(250);
 
 /// The lines printed so far whose ratio is below 1.
 struct Table {
@@ -29,14 +30,17 @@ struct Table {
 
 impl Table {
     /// Measures a call against its naive counterpart, and prints the line.
-    fn line(&mut self, name: String, symbols: usize, bytes: usize, mut library: impl FnMut(), mut naive: impl FnMut()) {
-        let (library, naive) = medians(&mut library, &mut naive);
+    fn line<A, B>(
+        &mut self, name: String, symbols: usize, bytes: usize, mut library: impl FnMut() -> A,
+        mut naive: impl FnMut() -> B,
+    ) {
+        let (library, naive) = medians(&mut || drop(black_box(library())), &mut || drop(black_box(naive())));
         let ratio = naive / library;
         let per_symbol = 1e9 * library / symbols as f64;
         let rate = bytes as f64 / library / 1e6;
         println!("{name:<36}{per_symbol:>12.2}{rate:>12.2}{:>14.2}{ratio:>9.2}", 1e9 * naive / symbols as f64);
         if ratio < 1.0 {
-            self.slower.push(format!("{} ({ratio:.2})", name.split_whitespace().collect::<Vec<_>>().join(" ")));
+            self.slower.push(format!("{name} ({ratio:.2})"));
         }
     }
 }
@@ -116,28 +120,28 @@ fn bench_code(table: &mut Table, written: &Written) {
         all,
         capacity,
         || shape.write(black_box(transcript), &mut out).unwrap(),
-        || drop(black_box(naive::write(*plain, black_box(transcript), all).unwrap())),
+        || naive::write(*plain, black_box(transcript), all).unwrap(),
     );
     table.line(
         written.name("check"),
         all,
         capacity,
-        || drop(black_box(shape.check(black_box(nodes)).unwrap())),
-        || drop(black_box(naive::check(*plain, black_box(nodes)).unwrap())),
+        || shape.check(black_box(nodes)).unwrap(),
+        || naive::check(*plain, black_box(nodes)).unwrap(),
     );
     table.line(
         written.name("restore"),
         all,
         capacity,
         || shape.restore(&list, black_box(symbols), &mut out).unwrap(),
-        || drop(black_box(naive::restore(*plain, &list, black_box(symbols), all).unwrap())),
+        || naive::restore(*plain, &list, black_box(symbols), all).unwrap(),
     );
     table.line(
         written.name("open"),
         capacity,
         capacity,
         || shape.open(&list, black_box(symbols), capacity, &mut bytes).unwrap(),
-        || drop(black_box(naive::open(*plain, &list, black_box(symbols), capacity, capacity).unwrap())),
+        || naive::open(*plain, &list, black_box(symbols), capacity, capacity).unwrap(),
     );
 }
 
@@ -150,7 +154,7 @@ struct Choice {
 
 impl Choice {
     fn new(plain: naive::Shape, h: usize) -> Option<Self> {
-        let allowed = h < plain.equations() && plain.layers % naive::judge::batch_layers(h) == 0;
+        let allowed = h < plain.equations() && plain.layers.is_multiple_of(naive::judge::batch_layers(h));
         let dead: Vec<usize> = (0..h).map(|rank| 2 * rank + 1).collect();
         let living = (0..plain.n).filter(|node| !dead.contains(node));
         let helpers = living.take(plain.k + 1).collect();
@@ -170,12 +174,9 @@ fn bench_repair(table: &mut Table, written: &Written, choice: &Choice) {
         h * size,
         plain.capacity(),
         || shape.repair(dead, helpers, black_box(&mut all), &mut wire).unwrap(),
-        || drop(black_box(naive::repair(*plain, dead, helpers, black_box(nodes), wire_length).unwrap())),
+        || naive::repair(*plain, dead, helpers, black_box(nodes), wire_length).unwrap(),
     );
-    assert_eq!((&all, &wire), {
-        let (all, wire) = naive::repair(*plain, dead, helpers, nodes, wire_length).unwrap();
-        (&all.clone(), &wire.clone())
-    });
+    assert_eq!(naive::repair(*plain, dead, helpers, nodes, wire_length).as_ref(), Ok(&(all, wire.clone())));
     bench_steps(table, written, choice, &wire);
 }
 
@@ -194,7 +195,7 @@ fn bench_steps(table: &mut Table, written: &Written, choice: &Choice, wire: &[u1
         *length,
         size,
         || shape.helper_message(dead, helpers, helper, new, black_box(own), &mut message).unwrap(),
-        || drop(black_box(naive::helper_message(*plain, dead, helpers, helper, new, black_box(own), *length).unwrap())),
+        || naive::helper_message(*plain, dead, helpers, helper, new, black_box(own), *length).unwrap(),
     );
     table.line(
         written.name(&format!("first_step h={h}")),
@@ -203,7 +204,7 @@ fn bench_steps(table: &mut Table, written: &Written, choice: &Choice, wire: &[u1
         || shape.first_step(dead, helpers, new, black_box(messages), &mut pairs, &mut sums).unwrap(),
         || {
             let (pairs, sums) = (2 * length, (h - 1) * length);
-            drop(black_box(naive::first_step(*plain, dead, helpers, new, black_box(messages), pairs, sums).unwrap()))
+            naive::first_step(*plain, dead, helpers, new, black_box(messages), pairs, sums).unwrap()
         },
     );
     table.line(
@@ -211,7 +212,7 @@ fn bench_steps(table: &mut Table, written: &Written, choice: &Choice, wire: &[u1
         size,
         size,
         || shape.second_step(dead, helpers, new, black_box(&pairs), received, &mut symbols).unwrap(),
-        || drop(black_box(naive::second_step(*plain, dead, helpers, new, black_box(&pairs), received, size).unwrap())),
+        || naive::second_step(*plain, dead, helpers, new, black_box(&pairs), received, size).unwrap(),
     );
     assert_eq!(symbols, written.node(new));
 }
@@ -229,15 +230,15 @@ fn bench_cards(table: &mut Table, written: &Written) {
         written.name("pack"),
         size,
         size,
-        || drop(black_box(shape.pack(node, length, black_box(own), &mut buffer).unwrap())),
-        || drop(black_box(naive::pack(header, black_box(own), room).unwrap())),
+        || shape.pack(node, length, black_box(own), &mut buffer).unwrap(),
+        || naive::pack(header, black_box(own), room).unwrap(),
     );
     table.line(
         written.name("unpack"),
         size,
         size,
-        || drop(black_box(archive::unpack(black_box(&packed), &mut symbols).unwrap())),
-        || drop(black_box(naive::unpack(black_box(&packed), size).unwrap())),
+        || archive::unpack(black_box(&packed), &mut symbols).unwrap(),
+        || naive::unpack(black_box(&packed), size).unwrap(),
     );
 }
 
@@ -250,8 +251,8 @@ fn bench_plan(table: &mut Table, written: &Written, choice: &Choice) {
         written.name(&format!("plan h={}", choice.dead.len())),
         length,
         written.plain.capacity(),
-        || drop(black_box(archive::plan(black_box(&input), &mut text).unwrap())),
-        || drop(black_box(naive::plan(black_box(&input)))),
+        || archive::plan(black_box(&input), &mut text).unwrap(),
+        || naive::plan(black_box(&input)),
     );
     assert_eq!(&text[..length], naive::plan(&input).as_bytes());
 }
