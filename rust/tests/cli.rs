@@ -2,6 +2,7 @@
 //! leaves everything as it was.
 use std::collections::BTreeMap;
 use std::fs;
+use std::os::unix::fs::{symlink, PermissionsExt};
 use std::path::{Path, PathBuf};
 use std::process::{Command, Output};
 
@@ -510,7 +511,7 @@ fn a_file_that_is_there_is_not_opened_into() {
     for out in ["transcript", "drives", "drives/node-00.card"] {
         place.refuses(&format!("open drives {out}"), &[out, "is there already"]);
     }
-    std::os::unix::fs::symlink("nowhere", place.path("link")).unwrap();
+    symlink("nowhere", place.path("link")).unwrap();
     place.refuses("open drives link", &["link is there already"]);
 }
 
@@ -534,8 +535,24 @@ fn only_files_are_replaced() {
     fs::create_dir(place.card("drives", 1)).unwrap();
     place.refuses("repair drives", &["node-01.card is not a file"]);
     fs::remove_dir(place.card("drives", 1)).unwrap();
-    std::os::unix::fs::symlink("../transcript", place.card("drives", 1)).unwrap();
+    symlink("../transcript", place.card("drives", 1)).unwrap();
     place.refuses("repair drives", &["node-01.card is not a file"]);
+}
+
+#[test]
+fn a_good_card_that_may_not_be_read_is_not_replaced() {
+    let place = Place::with_archive("forbidden");
+    let written = place.contents();
+    let set_mode = |mode| fs::set_permissions(place.card("drives", 1), fs::Permissions::from_mode(mode)).unwrap();
+    set_mode(0);
+    // The superuser may read it all the same, and then nothing is to be repaired.
+    if fs::read(place.card("drives", 1)).is_err() {
+        place.refuses("repair drives", &["node-01.card may be good"]);
+    } else {
+        assert!(place.does("repair drives").starts_with("nothing to repair"));
+    }
+    set_mode(0o600);
+    assert!(place.contents() == written);
 }
 
 #[test]

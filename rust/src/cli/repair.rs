@@ -1,5 +1,6 @@
 //! `archive repair`: missing and unreadable cards made anew, with the help of k + 1 others.
 use std::fs;
+use std::io;
 use std::path::{Path, PathBuf};
 
 use archive::Shape;
@@ -128,15 +129,30 @@ fn put_cards(cards: &Cards, dead: &[usize], nodes: &[u16]) -> Result<(), Failure
     Ok(())
 }
 
-/// A node's new card under a temporary name. What stands in its place must be a file that cannot be read as a card, or
-/// nothing.
+/// Refuses to write over anything but a file whose bytes are no card. One that cannot be read at all may be a good card.
+fn replaceable(path: &Path) -> Result<(), Failure> {
+    match fs::symlink_metadata(path) {
+        Err(e) if e.kind() == io::ErrorKind::NotFound => return Ok(()),
+        Ok(there) if !there.is_file() => {
+            return Err(Failure::Work(format!("{} is not a file: move it away", path.display())));
+        }
+        _ => {}
+    }
+    match fs::read(path) {
+        Ok(_) => Ok(()),
+        Err(e) => Err(Failure::Work(format!(
+            "{} may be good, but cannot be read: {e}; if it is lost, move it away",
+            path.display()
+        ))),
+    }
+}
+
+/// A node's new card under a temporary name.
 fn pending_card(cards: &Cards, node: usize, nodes: &[u16]) -> Result<Pending, Failure> {
     let refused =
         |refusal| Failure::refused("the new card cannot be packed", refusal, "this is a fault of the program");
     let path = card_path(&cards.directory, node);
-    if fs::symlink_metadata(&path).is_ok_and(|there| !there.is_file()) {
-        return Err(Failure::Work(format!("{} is not a file: move it away", path.display())));
-    }
+    replaceable(&path)?;
     let size = cards.shape.node_symbols().map_err(refused)?;
     let symbols = &nodes[node * size..][..size];
     let card = cards.shape.pack_to_vec(node, cards.length, symbols).map_err(refused)?;
