@@ -37,8 +37,8 @@ impl Table {
         let (library, naive) = medians(&mut || drop(black_box(library())), &mut || drop(black_box(naive())));
         let ratio = naive / library;
         let per_symbol = 1e9 * library / symbols as f64;
-        let rate = bytes as f64 / library / 1e6;
-        println!("{name:<36}{per_symbol:>12.2}{rate:>12.2}{:>14.2}{ratio:>9.2}", 1e9 * naive / symbols as f64);
+        let rate = if bytes == 0 { "-".to_string() } else { format!("{:.2}", bytes as f64 / library / 1e6) };
+        println!("{name:<36}{per_symbol:>12.2}{rate:>12}{:>14.2}{ratio:>9.2}", 1e9 * naive / symbols as f64);
         if ratio < 1.0 {
             self.slower.push(format!("{name} ({ratio:.2})"));
         }
@@ -242,7 +242,7 @@ fn bench_cards(table: &mut Table, written: &Written) {
     );
 }
 
-/// A "symbol" of a plan is a byte of its text.
+/// A "symbol" of a plan is a byte of its text; no transcript is behind it.
 fn bench_plan(table: &mut Table, written: &Written, choice: &Choice) {
     let input = archive::plan_input(written.shape, &choice.dead, &choice.helpers);
     let mut text = vec![0; archive::PLAN_TEXT];
@@ -250,7 +250,7 @@ fn bench_plan(table: &mut Table, written: &Written, choice: &Choice) {
     table.line(
         written.name(&format!("plan h={}", choice.dead.len())),
         length,
-        written.plain.capacity(),
+        0,
         || archive::plan(black_box(&input), &mut text).unwrap(),
         || naive::plan(black_box(&input)),
     );
