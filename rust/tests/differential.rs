@@ -94,7 +94,7 @@ fn check() {
     });
 }
 
-/// Codewords that differ from a sound one in the last place only fail in the last equations: every t comes first.
+/// For every place, an archive that is wrong there alone, and whose first unmet equation has each t in turn.
 #[test]
 fn check_finds_every_equation() {
     let mut random = Random::new(1);
