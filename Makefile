@@ -1,0 +1,16 @@
+# The demonstration, the tests and the measurements, each with its set-up, from a fresh clone.
+.PHONY: demo test bench library
+
+demo: library
+	cd rust && cargo build --quiet --release --offline
+	rust/target/release/archive demo
+
+test:
+	.ci/run
+
+bench: library
+	cd rust && cargo bench --offline
+
+# Proves the library's crates, where that is not done yet, and writes target/staticlib/libarchive.a.
+library:
+	rt staticlib archive

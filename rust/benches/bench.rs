@@ -1,0 +1,276 @@
+//! How fast each call is, beside the naive implementation of the tests in the same run: `cargo bench`.
+//!
+//! "ns/symbol" is the time of a call over the symbols it makes (or, checking, looks at). "MB/s" is the transcript behind
+//! the call over its time: k × N bytes where the call works on the whole archive, N where it works on one node.
+//! "ratio" is the naive implementation's time over the library's. Times are medians.
+
+#[path = "../tests/naive/mod.rs"]
+mod naive;
+
+use archive::Shape;
+use naive::random::Random;
+use std::hint::black_box;
+use std::time::{Duration, Instant};
+
+const SHAPES: [(usize, usize, usize); 5] = [(6, 4, 3), (12, 6, 15), (12, 6, 1), (12, 10, 1), (12, 1, 1)];
+const DEAD_COUNTS: [usize; 3] = [1, 2, 3];
+
+/// A line goes on until it has so many runs of each side, or else the least number and this time.
+const MOST_RUNS: usize = 501;
+const LEAST_RUNS: usize = 7;
+const LINE_TIME: Duration = Duration::from_millis(700);
+/// A run repeats a short call until it lasts so long: short beside the turns that other programs take of a processor, so
+/// that most runs are not interrupted.
+const RUN_TIME: Duration = Duration::from_micros(250);
+
+/// The lines printed so far whose ratio is below 1.
+struct Table {
+    slower: Vec<String>,
+}
+
+impl Table {
+    /// Measures a call against its naive counterpart, and prints the line.
+    fn line<A, B>(
+        &mut self, name: String, symbols: usize, bytes: usize, mut library: impl FnMut() -> A,
+        mut naive: impl FnMut() -> B,
+    ) {
+        let (library, naive) = medians(&mut || drop(black_box(library())), &mut || drop(black_box(naive())));
+        let ratio = naive / library;
+        let per_symbol = 1e9 * library / symbols as f64;
+        let rate = if bytes == 0 { "-".to_string() } else { format!("{:.2}", bytes as f64 / library / 1e6) };
+        println!("{name:<36}{per_symbol:>12.2}{rate:>12}{:>14.2}{ratio:>9.2}", 1e9 * naive / symbols as f64);
+        if ratio < 1.0 {
+            self.slower.push(format!("{name} ({ratio:.2})"));
+        }
+    }
+}
+
+/// The median times of one call of each side, run by turns.
+fn medians(library: &mut dyn FnMut(), naive: &mut dyn FnMut()) -> (f64, f64) {
+    let library_repeats = repeats(library);
+    let naive_repeats = repeats(naive);
+    let start = Instant::now();
+    let (mut library_times, mut naive_times) = (Vec::new(), Vec::new());
+    while library_times.len() < LEAST_RUNS || (library_times.len() < MOST_RUNS && start.elapsed() < LINE_TIME) {
+        library_times.push(run(library, library_repeats));
+        naive_times.push(run(naive, naive_repeats));
+    }
+    (median(library_times), median(naive_times))
+}
+
+/// Warms up, and says how many calls make a run.
+fn repeats(call: &mut dyn FnMut()) -> usize {
+    call();
+    let mut repeats = 1;
+    while repeats < 1 << 20 && run(call, repeats) * (repeats as f64) < RUN_TIME.as_secs_f64() {
+        repeats *= 2;
+    }
+    repeats
+}
+
+/// The time of one of so many calls, in seconds.
+fn run(call: &mut dyn FnMut(), repeats: usize) -> f64 {
+    let start = Instant::now();
+    for _ in 0..repeats {
+        call();
+    }
+    start.elapsed().as_secs_f64() / repeats as f64
+}
+
+fn median(mut times: Vec<f64>) -> f64 {
+    times.sort_by(f64::total_cmp);
+    times[times.len() / 2]
+}
+
+/// A shape as both sides name it, and a random transcript written into all nodes.
+struct Written {
+    shape: Shape,
+    plain: naive::Shape,
+    transcript: Vec<u8>,
+    nodes: Vec<u16>,
+}
+
+impl Written {
+    fn new((n, k, layers): (usize, usize, usize)) -> Self {
+        let plain = naive::Shape { n, k, layers };
+        let transcript = Random::new(1).bytes(plain.capacity());
+        let nodes = naive::write(plain, &transcript, n * plain.symbols()).unwrap();
+        Written { shape: Shape { nodes: n, data: k, layers }, plain, transcript, nodes }
+    }
+
+    fn name(&self, call: &str) -> String {
+        format!("({}, {}, {}) {call}", self.plain.n, self.plain.k, self.plain.layers)
+    }
+
+    fn node(&self, node: usize) -> &[u16] {
+        &self.nodes[node * self.plain.symbols()..][..self.plain.symbols()]
+    }
+}
+
+fn bench_code(table: &mut Table, written: &Written) {
+    let Written { shape, plain, transcript, nodes } = written;
+    let (all, capacity) = (nodes.len(), plain.capacity());
+    // The last k nodes: as many data nodes as can be are worked out.
+    let list: Vec<usize> = (plain.n - plain.k..plain.n).collect();
+    let symbols = &nodes[all - capacity..];
+    let mut out = vec![0; all];
+    let mut bytes = vec![0; capacity];
+    table.line(
+        written.name("write"),
+        all,
+        capacity,
+        || shape.write(black_box(transcript), &mut out).unwrap(),
+        || naive::write(*plain, black_box(transcript), all).unwrap(),
+    );
+    table.line(
+        written.name("check"),
+        all,
+        capacity,
+        || shape.check(black_box(nodes)).unwrap(),
+        || naive::check(*plain, black_box(nodes)).unwrap(),
+    );
+    table.line(
+        written.name("restore"),
+        all,
+        capacity,
+        || shape.restore(&list, black_box(symbols), &mut out).unwrap(),
+        || naive::restore(*plain, &list, black_box(symbols), all).unwrap(),
+    );
+    table.line(
+        written.name("open"),
+        capacity,
+        capacity,
+        || shape.open(&list, black_box(symbols), capacity, &mut bytes).unwrap(),
+        || naive::open(*plain, &list, black_box(symbols), capacity, capacity).unwrap(),
+    );
+}
+
+/// The dead are every other node from 1 on, the helpers the first others.
+struct Choice {
+    dead: Vec<usize>,
+    helpers: Vec<usize>,
+    length: usize,
+}
+
+impl Choice {
+    fn new(plain: naive::Shape, h: usize) -> Option<Self> {
+        let allowed = h < plain.equations() && plain.layers.is_multiple_of(naive::judge::batch_layers(h));
+        let dead: Vec<usize> = (0..h).map(|rank| 2 * rank + 1).collect();
+        let living = (0..plain.n).filter(|node| !dead.contains(node));
+        let helpers = living.take(plain.k + 1).collect();
+        allowed.then(|| Choice { dead, helpers, length: plain.symbols() / (h + 1) })
+    }
+}
+
+fn bench_repair(table: &mut Table, written: &Written, choice: &Choice) {
+    let Written { shape, plain, nodes, .. } = written;
+    let Choice { dead, helpers, length } = choice;
+    let (h, size) = (dead.len(), plain.symbols());
+    let wire_length = h * (plain.k + h) * length;
+    let mut all = nodes.clone();
+    let mut wire = vec![0; wire_length];
+    table.line(
+        written.name(&format!("repair h={h}")),
+        h * size,
+        plain.capacity(),
+        || shape.repair(dead, helpers, black_box(&mut all), &mut wire).unwrap(),
+        || naive::repair(*plain, dead, helpers, black_box(nodes), wire_length).unwrap(),
+    );
+    assert_eq!(naive::repair(*plain, dead, helpers, nodes, wire_length).as_ref(), Ok(&(all, wire.clone())));
+    bench_steps(table, written, choice, &wire);
+}
+
+/// The calls of one helper and one new node, of rank 0, with what stood on the wire.
+fn bench_steps(table: &mut Table, written: &Written, choice: &Choice, wire: &[u16]) {
+    let Written { shape, plain, .. } = written;
+    let Choice { dead, helpers, length } = choice;
+    let (h, size, new, helper) = (dead.len(), plain.symbols(), dead[0], helpers[0]);
+    let own = written.node(helper);
+    let messages = &wire[..helpers.len() * length];
+    let received = &wire[h * helpers.len() * length..][..(h - 1) * length];
+    let (mut message, mut pairs) = (vec![0; *length], vec![0; 2 * length]);
+    let (mut sums, mut symbols) = (vec![0; (h - 1) * length], vec![0; size]);
+    table.line(
+        written.name(&format!("helper_message h={h}")),
+        *length,
+        size,
+        || shape.helper_message(dead, helpers, helper, new, black_box(own), &mut message).unwrap(),
+        || naive::helper_message(*plain, dead, helpers, helper, new, black_box(own), *length).unwrap(),
+    );
+    table.line(
+        written.name(&format!("first_step h={h}")),
+        (h + 1) * length,
+        size,
+        || shape.first_step(dead, helpers, new, black_box(messages), &mut pairs, &mut sums).unwrap(),
+        || {
+            let (pairs, sums) = (2 * length, (h - 1) * length);
+            naive::first_step(*plain, dead, helpers, new, black_box(messages), pairs, sums).unwrap()
+        },
+    );
+    table.line(
+        written.name(&format!("second_step h={h}")),
+        size,
+        size,
+        || shape.second_step(dead, helpers, new, black_box(&pairs), received, &mut symbols).unwrap(),
+        || naive::second_step(*plain, dead, helpers, new, black_box(&pairs), received, size).unwrap(),
+    );
+    assert_eq!(symbols, written.node(new));
+}
+
+fn bench_cards(table: &mut Table, written: &Written) {
+    let Written { shape, plain, .. } = written;
+    let (size, length, node) = (plain.symbols(), plain.capacity(), plain.n - 1);
+    let own = written.node(node);
+    let header = naive::Header { shape: *plain, node, length };
+    let room = 15 + 2 * size;
+    let mut buffer = vec![0; room];
+    let packed = naive::pack(header, own, room).unwrap();
+    let mut symbols = vec![0; size];
+    table.line(
+        written.name("pack"),
+        size,
+        size,
+        || shape.pack(node, length, black_box(own), &mut buffer).unwrap(),
+        || naive::pack(header, black_box(own), room).unwrap(),
+    );
+    table.line(
+        written.name("unpack"),
+        size,
+        size,
+        || archive::unpack(black_box(&packed), &mut symbols).unwrap(),
+        || naive::unpack(black_box(&packed), size).unwrap(),
+    );
+}
+
+/// A "symbol" of a plan is a byte of its text; no transcript is behind it.
+fn bench_plan(table: &mut Table, written: &Written, choice: &Choice) {
+    let input = archive::plan_input(written.shape, &choice.dead, &choice.helpers);
+    let mut text = vec![0; archive::PLAN_TEXT];
+    let length = naive::plan(&input).len();
+    table.line(
+        written.name(&format!("plan h={}", choice.dead.len())),
+        length,
+        0,
+        || archive::plan(black_box(&input), &mut text).unwrap(),
+        || naive::plan(black_box(&input)),
+    );
+    assert_eq!(&text[..length], naive::plan(&input).as_bytes());
+}
+
+fn main() {
+    println!("{:<36}{:>12}{:>12}{:>14}{:>9}", "(n, k, L) call", "ns/symbol", "MB/s", "naive ns/sym", "ratio");
+    let mut table = Table { slower: Vec::new() };
+    for shape in SHAPES {
+        let written = Written::new(shape);
+        bench_code(&mut table, &written);
+        for choice in DEAD_COUNTS.iter().filter_map(|&h| Choice::new(written.plain, h)) {
+            bench_repair(&mut table, &written, &choice);
+            bench_plan(&mut table, &written, &choice);
+        }
+        bench_cards(&mut table, &written);
+    }
+    match table.slower.len() {
+        0 => println!("Ratio below 1: none."),
+        _ => println!("Ratio below 1: {}.", table.slower.join(", ")),
+    }
+}

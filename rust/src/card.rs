@@ -1,0 +1,101 @@
+//! Cards, the files of nodes: packing and unpacking.
+use crate::ffi;
+use crate::refusal::{answer, cause};
+use crate::{Refusal, Shape};
+
+/// Where lengths begin in packing's answer.
+const PACKED: usize = 256;
+
+/// What a card says before its symbols.
+#[derive(Clone, Copy, Debug, PartialEq, Eq, Hash)]
+pub struct Header {
+    /// The shape of the archive.
+    pub shape: Shape,
+    /// The node whose card it is.
+    pub node: usize,
+    /// The transcript's length in bytes.
+    pub length: usize,
+}
+
+impl Shape {
+    /// Packs a node's N symbols into a card buffer of 15 + 2 × N bytes. Gives the card's length; the bytes behind the
+    /// card are as they were.
+    ///
+    /// ```
+    /// let shape = archive::Shape::new(3, 1, 1)?;
+    /// let mut card = [0; 31];
+    /// let length = shape.pack(1, 2, &[253, 247, 0, 0, 0, 0, 0, 0], &mut card)?;
+    /// assert_eq!(card[..length], [3, 1, 1, 1, 2, 253, 1, 247, 1, 0, 0, 0, 0, 0, 0]);
+    /// # Ok::<(), archive::Refusal>(())
+    /// ```
+    pub fn pack(&self, node: usize, length: usize, symbols: &[u16], card: &mut [u8]) -> Result<usize, Refusal> {
+        let number = ffi::pack(*self, node, length, symbols, card);
+        if number < PACKED {
+            return Err(cause(number));
+        }
+        Ok(number - PACKED)
+    }
+
+    /// A node's card, in a new buffer of its length.
+    pub fn pack_to_vec(&self, node: usize, length: usize, symbols: &[u16]) -> Result<Vec<u8>, Refusal> {
+        let mut card = vec![0; self.card_room()?];
+        let packed = self.pack(node, length, symbols, &mut card)?;
+        card.truncate(packed);
+        Ok(card)
+    }
+}
+
+/// Unpacks a card into a buffer of the N symbols of its shape.
+///
+/// ```
+/// let mut symbols = [0; 8];
+/// let header = archive::unpack(&[3, 1, 1, 1, 2, 253, 1, 247, 1, 0, 0, 0, 0, 0, 0], &mut symbols)?;
+/// assert_eq!((header.node, header.length), (1, 2));
+/// assert_eq!(symbols, [253, 247, 0, 0, 0, 0, 0, 0]);
+/// # Ok::<(), archive::Refusal>(())
+/// ```
+pub fn unpack(card: &[u8], symbols: &mut [u16]) -> Result<Header, Refusal> {
+    let mut numbers = [0; 5];
+    unpack_into(card, symbols, &mut numbers)?;
+    let [nodes, data, layers, node, length] = numbers;
+    Ok(Header { shape: Shape { nodes, data, layers }, node, length })
+}
+
+/// Unpacks a card as the library's own call does, with the header as five numbers: nodes, data nodes, layers, the
+/// node, the transcript's length. A header buffer of another length is refused with [`Refusal::WrongLength`].
+pub fn unpack_into(card: &[u8], symbols: &mut [u16], header: &mut [usize]) -> Result<(), Refusal> {
+    answer(ffi::unpack(card, symbols, header))
+}
+
+/// A card's header and symbols, in a new buffer.
+///
+/// ```
+/// use archive::{unpack_to_vec, Refusal};
+/// let (header, symbols) = unpack_to_vec(&[3, 1, 1, 1, 2, 253, 1, 247, 1, 0, 0, 0, 0, 0, 0])?;
+/// assert_eq!(header.shape.data, 1);
+/// assert_eq!(symbols, [253, 247, 0, 0, 0, 0, 0, 0]);
+/// assert_eq!(unpack_to_vec(&[3, 1, 1]), Err(Refusal::Malformed));
+/// # Ok::<(), Refusal>(())
+/// ```
+pub fn unpack_to_vec(card: &[u8]) -> Result<(Header, Vec<u16>), Refusal> {
+    let mut symbols = vec![0; symbols_announced(card)?];
+    let header = unpack(card, &mut symbols)?;
+    Ok((header, symbols))
+}
+
+/// The N of a card's header. The library judges the header before the symbols' buffer, so with no room it refuses a
+/// bad header for what is wrong with it and a good one for the length. In a good one, the nodes, data nodes and layers
+/// are below 128 and take a byte each; N is at most 61 440, whatever the card says.
+fn symbols_announced(card: &[u8]) -> Result<usize, Refusal> {
+    match unpack(card, &mut []) {
+        Err(Refusal::WrongLength) => {}
+        Err(refusal) => return Err(refusal),
+        Ok(_) => return Ok(0),
+    }
+    match card {
+        [nodes, data, layers, ..] => {
+            Shape { nodes: (*nodes).into(), data: (*data).into(), layers: (*layers).into() }.node_symbols()
+        }
+        _ => Err(Refusal::Malformed),
+    }
+}

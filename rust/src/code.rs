@@ -1,0 +1,120 @@
+//! Writing a transcript, checking all nodes, and restoring or opening from any k of them.
+use crate::ffi;
+use crate::refusal::{answer, cause};
+use crate::{Refusal, Shape};
+
+/// Where the numbers of unmet equations begin in the check's answer.
+const UNMET: usize = 256;
+
+/// What the check of all nodes answers.
+#[derive(Clone, Copy, Debug, PartialEq, Eq)]
+pub enum Checked {
+    /// Every parity equation is met.
+    Sound,
+    /// The first equation that is not met, by layer, then a, then t.
+    Unmet {
+        /// The layer.
+        layer: usize,
+        /// The place within the layer, below 2^nodes.
+        a: usize,
+        /// The power of the points, below nodes - data.
+        t: usize,
+    },
+}
+
+impl Shape {
+    /// Writes the transcript (at most data × N bytes) into all nodes (nodes × N symbols).
+    ///
+    /// ```
+    /// let shape = archive::Shape::new(3, 1, 1)?;
+    /// let mut nodes = [0; 24];
+    /// shape.write(&[3, 6], &mut nodes)?;
+    /// assert_eq!(nodes[..8], [3, 6, 0, 0, 0, 0, 0, 0]);
+    /// assert_eq!(nodes[8..16], [253, 247, 0, 0, 0, 0, 0, 0]);
+    /// assert_eq!(nodes[16..], [1, 4, 0, 0, 0, 0, 0, 0]);
+    /// # Ok::<(), archive::Refusal>(())
+    /// ```
+    pub fn write(&self, transcript: &[u8], nodes: &mut [u16]) -> Result<(), Refusal> {
+        answer(ffi::write(*self, transcript, nodes))
+    }
+
+    /// All nodes of the transcript, in a new buffer.
+    pub fn write_to_nodes(&self, transcript: &[u8]) -> Result<Vec<u16>, Refusal> {
+        let mut nodes = vec![0; self.archive_symbols()?];
+        self.write(transcript, &mut nodes)?;
+        Ok(nodes)
+    }
+
+    /// Whether all nodes (nodes × N symbols) meet the parity equations.
+    ///
+    /// ```
+    /// use archive::{Checked, Shape};
+    /// let shape = Shape::new(3, 1, 1)?;
+    /// let mut nodes = shape.write_to_nodes(&[3, 6])?;
+    /// assert_eq!(shape.check(&nodes)?, Checked::Sound);
+    /// nodes[17] = 5;
+    /// assert_eq!(shape.check(&nodes)?, Checked::Unmet { layer: 0, a: 1, t: 0 });
+    /// # Ok::<(), archive::Refusal>(())
+    /// ```
+    pub fn check(&self, nodes: &[u16]) -> Result<Checked, Refusal> {
+        let number = ffi::check(*self, nodes);
+        if number == 0 {
+            return Ok(Checked::Sound);
+        }
+        if number < UNMET {
+            return Err(cause(number));
+        }
+        Ok(self.unmet(number - UNMET))
+    }
+
+    /// The equation with that number, (layer × 2^nodes + a) × (nodes - data) + t, of a shape within the ranges.
+    fn unmet(&self, equation: usize) -> Checked {
+        let r = self.nodes - self.data;
+        let place = equation / r;
+        Checked::Unmet { layer: place >> self.nodes, a: place % (1 << self.nodes), t: equation % r }
+    }
+
+    /// Restores all nodes (nodes × N symbols) from the k that are listed, rising, with their symbols (data × N).
+    ///
+    /// ```
+    /// let shape = archive::Shape::new(3, 1, 1)?;
+    /// let mut nodes = [0; 24];
+    /// shape.restore(&[2], &[1, 4, 0, 0, 0, 0, 0, 0], &mut nodes)?;
+    /// assert_eq!(nodes[..2], [3, 6]);
+    /// # Ok::<(), archive::Refusal>(())
+    /// ```
+    pub fn restore(&self, list: &[usize], symbols: &[u16], nodes: &mut [u16]) -> Result<(), Refusal> {
+        answer(ffi::restore(*self, list, symbols, nodes))
+    }
+
+    /// All nodes, from the k that are listed, in a new buffer.
+    pub fn restore_nodes(&self, list: &[usize], symbols: &[u16]) -> Result<Vec<u16>, Refusal> {
+        let mut nodes = vec![0; self.archive_symbols()?];
+        self.restore(list, symbols, &mut nodes)?;
+        Ok(nodes)
+    }
+
+    /// Opens the transcript of that length from the k nodes that are listed, rising, with their symbols (data × N).
+    ///
+    /// ```
+    /// use archive::{Refusal, Shape};
+    /// let shape = Shape::new(3, 1, 1)?;
+    /// let mut transcript = [0; 2];
+    /// shape.open(&[1], &[253, 247, 0, 0, 0, 0, 0, 0], 2, &mut transcript)?;
+    /// assert_eq!(transcript, [3, 6]);
+    /// assert_eq!(shape.open(&[1], &[87, 0, 0, 0, 0, 0, 0, 0], 1, &mut [0]), Err(Refusal::NoTranscript));
+    /// # Ok::<(), archive::Refusal>(())
+    /// ```
+    pub fn open(&self, list: &[usize], symbols: &[u16], length: usize, transcript: &mut [u8]) -> Result<(), Refusal> {
+        answer(ffi::open(*self, list, symbols, length, transcript))
+    }
+
+    /// The transcript of that length, in a new buffer.
+    pub fn open_to_vec(&self, list: &[usize], symbols: &[u16], length: usize) -> Result<Vec<u8>, Refusal> {
+        // A length above the capacity is refused whatever is lent, so nothing is.
+        let room = if length <= self.capacity()? { length } else { 0 };
+        let mut transcript = vec![0; room];
+        self.open(list, symbols, length, &mut transcript)?;
+        Ok(transcript)
+    }
+}

@@ -1,0 +1,57 @@
+//! The transfer plan of a repair, as text.
+use crate::ffi;
+use crate::Shape;
+
+/// The bytes that a text buffer has at least.
+pub const PLAN_TEXT: usize = 1339;
+
+/// Puts the plan for an input into a text buffer of at least [`PLAN_TEXT`] bytes, and gives the text's length; the
+/// bytes behind it are as they were. `None`, and nothing put, where the buffer is shorter. An input that is refused has
+/// a plan too: one line with the refusal's number.
+///
+/// The input is nodes, data nodes, layers, h, the dead nodes and the helpers, each in the seven-bit form of cards.
+pub fn plan(input: &[u8], text: &mut [u8]) -> Option<usize> {
+    match ffi::plan(input, text) {
+        0 => None,
+        length => Some(length),
+    }
+}
+
+/// The plan for an input.
+///
+/// ```
+/// let text = archive::plan_text(&[4, 1, 3, 2, 0, 1, 2, 3]);
+/// assert_eq!(text, b"4 1 3 2\n2 0 16\n3 0 16\n2 1 16\n3 1 16\n1 0 16\n0 1 16\n96\n");
+/// assert_eq!(archive::plan_text(&[4]), b"6\n");
+/// ```
+pub fn plan_text(input: &[u8]) -> Vec<u8> {
+    let mut text = vec![0; PLAN_TEXT];
+    let length = plan(input, &mut text).expect("the buffer has the bytes that a plan needs");
+    text.truncate(length);
+    text
+}
+
+/// The input of the plan for a repair.
+///
+/// ```
+/// use archive::{plan_input, Shape};
+/// let shape = Shape { nodes: 4, data: 1, layers: 3 };
+/// assert_eq!(plan_input(shape, &[0, 1], &[2, 3]), [4, 1, 3, 2, 0, 1, 2, 3]);
+/// ```
+pub fn plan_input(shape: Shape, dead: &[usize], helpers: &[usize]) -> Vec<u8> {
+    let front = [shape.nodes, shape.data, shape.layers, dead.len()];
+    let mut input = Vec::new();
+    for &number in front.iter().chain(dead).chain(helpers) {
+        put_number(number, &mut input);
+    }
+    input
+}
+
+/// A number in groups of seven bits, least first; every byte but the last has 128 added.
+fn put_number(mut number: usize, bytes: &mut Vec<u8>) {
+    while number > 127 {
+        bytes.push((number % 128) as u8 + 128);
+        number /= 128;
+    }
+    bytes.push(number as u8);
+}

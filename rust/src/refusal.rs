@@ -1,0 +1,92 @@
+//! The causes for which a call turns back, with their numbers.
+use std::error::Error;
+use std::fmt;
+
+/// Why a call turned back. Every buffer it was lent is as it was.
+#[derive(Clone, Copy, Debug, PartialEq, Eq, Hash)]
+pub enum Refusal {
+    /// The number of nodes, of data nodes or of layers is outside its range.
+    BadShape = 1,
+    /// A node not below the number of nodes, a list that is not strictly rising or of the wrong count, dead nodes that
+    /// help, or a named node that is not in its list.
+    BadNodes = 2,
+    /// The number of layers is not a multiple of the layers of a batch.
+    PartBatch = 3,
+    /// A buffer not of the exact length, or a transcript too long.
+    WrongLength = 4,
+    /// A symbol handed in is above 256.
+    BadSymbol = 5,
+    /// A card or the plan's input is malformed.
+    Malformed = 6,
+    /// The symbols are not those of a transcript of that length.
+    NoTranscript = 7,
+    /// Solving met a zero divisor; proved never to happen.
+    ZeroDivisor = 8,
+}
+
+impl Refusal {
+    /// All causes, by their numbers.
+    pub const ALL: [Refusal; 8] = [
+        Refusal::BadShape,
+        Refusal::BadNodes,
+        Refusal::PartBatch,
+        Refusal::WrongLength,
+        Refusal::BadSymbol,
+        Refusal::Malformed,
+        Refusal::NoTranscript,
+        Refusal::ZeroDivisor,
+    ];
+
+    /// The cause's number, 1 to 8.
+    ///
+    /// ```
+    /// assert_eq!(archive::Refusal::PartBatch.number(), 3);
+    /// ```
+    pub fn number(self) -> usize {
+        self as usize
+    }
+
+    /// The cause with that number.
+    ///
+    /// ```
+    /// use archive::Refusal;
+    /// assert_eq!(Refusal::from_number(7), Some(Refusal::NoTranscript));
+    /// assert_eq!(Refusal::from_number(0), None);
+    /// ```
+    pub fn from_number(number: usize) -> Option<Refusal> {
+        Self::ALL.into_iter().find(|cause| cause.number() == number)
+    }
+}
+
+impl fmt::Display for Refusal {
+    fn fmt(&self, f: &mut fmt::Formatter<'_>) -> fmt::Result {
+        f.write_str(match self {
+            Refusal::BadShape => "there must be 3 to 12 nodes, 1 to nodes - 2 data nodes and 1 to 15 layers",
+            Refusal::BadNodes => "the node lists are not as they should be",
+            Refusal::PartBatch => "the number of layers is not a multiple of the layers of a batch",
+            Refusal::WrongLength => "a buffer is not of the exact length, or the transcript is too long",
+            Refusal::BadSymbol => "a symbol is above 256",
+            Refusal::Malformed => "the card or the input is malformed",
+            Refusal::NoTranscript => "the symbols are not those of a transcript of that length",
+            Refusal::ZeroDivisor => "solving met a zero divisor",
+        })
+    }
+}
+
+impl Error for Refusal {}
+
+/// What a call answered that returns nothing else: 0, or a cause's number.
+pub(crate) fn answer(number: usize) -> Result<(), Refusal> {
+    if number == 0 {
+        return Ok(());
+    }
+    Err(cause(number))
+}
+
+/// The cause of an answer that is not 0. The library is proved to answer with no other number.
+pub(crate) fn cause(number: usize) -> Refusal {
+    match Refusal::from_number(number) {
+        Some(cause) => cause,
+        None => panic!("the library answered {number}, which is no refusal's number"),
+    }
+}

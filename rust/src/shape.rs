@@ -1,0 +1,95 @@
+//! The shape of an archive, and the sizes that follow from it.
+use crate::ffi;
+use crate::Refusal;
+
+/// How an archive is laid out. The fields may hold anything: each call judges them, and refuses a shape outside the
+/// ranges with [`Refusal::BadShape`].
+#[derive(Clone, Copy, Debug, PartialEq, Eq, Hash)]
+pub struct Shape {
+    /// n, the number of nodes: 3 to 12.
+    pub nodes: usize,
+    /// k, the number of nodes that give the transcript back: 1 to n - 2.
+    pub data: usize,
+    /// L, the number of layers: 1 to 15.
+    pub layers: usize,
+}
+
+impl Shape {
+    /// A shape within the ranges.
+    ///
+    /// ```
+    /// use archive::{Refusal, Shape};
+    /// assert!(Shape::new(12, 6, 15).is_ok());
+    /// assert_eq!(Shape::new(12, 11, 15), Err(Refusal::BadShape));
+    /// ```
+    pub fn new(nodes: usize, data: usize, layers: usize) -> Result<Shape, Refusal> {
+        let shape = Shape { nodes, data, layers };
+        shape.judge().map(|()| shape)
+    }
+
+    /// Refuses a shape outside the ranges. The library says so: the check of no symbols judges the shape first, and
+    /// refuses any shape within the ranges for the length.
+    fn judge(&self) -> Result<(), Refusal> {
+        match ffi::check(*self, &[]) {
+            1 => Err(Refusal::BadShape),
+            _ => Ok(()),
+        }
+    }
+
+    /// N = layers × 2^nodes, the symbols of a node: at most 61 440.
+    pub fn node_symbols(&self) -> Result<usize, Refusal> {
+        self.judge()?;
+        Ok(self.layers << self.nodes)
+    }
+
+    /// nodes × N, the symbols of all nodes.
+    pub fn archive_symbols(&self) -> Result<usize, Refusal> {
+        Ok(self.nodes * self.node_symbols()?)
+    }
+
+    /// data × N: the symbols of any k nodes, and the bytes of the longest transcript.
+    ///
+    /// ```
+    /// assert_eq!(archive::Shape { nodes: 12, data: 6, layers: 15 }.capacity(), Ok(368_640));
+    /// ```
+    pub fn capacity(&self) -> Result<usize, Refusal> {
+        Ok(self.data * self.node_symbols()?)
+    }
+
+    /// 15 + 2 × N, the bytes of the buffer that a card is packed into.
+    pub fn card_room(&self) -> Result<usize, Refusal> {
+        Ok(15 + 2 * self.node_symbols()?)
+    }
+
+    /// s, the odd part of h + 1: a repair of h dead nodes goes through the layers in batches of s.
+    ///
+    /// ```
+    /// let shape = archive::Shape { nodes: 12, data: 6, layers: 15 };
+    /// assert_eq!((1..6).map(|h| shape.batch_layers(h).unwrap()).collect::<Vec<_>>(), [1, 3, 1, 5, 3]);
+    /// ```
+    pub fn batch_layers(&self, dead_count: usize) -> Result<usize, Refusal> {
+        self.judge()?;
+        if !(1..self.nodes - self.data).contains(&dead_count) {
+            return Err(Refusal::BadNodes);
+        }
+        let parts = dead_count + 1;
+        Ok(parts >> parts.trailing_zeros())
+    }
+
+    /// N/(h+1), the symbols of each message in a repair of h dead nodes.
+    pub fn message_symbols(&self, dead_count: usize) -> Result<usize, Refusal> {
+        if !self.layers.is_multiple_of(self.batch_layers(dead_count)?) {
+            return Err(Refusal::PartBatch);
+        }
+        Ok(self.node_symbols()? / (dead_count + 1))
+    }
+
+    /// h(k+h)N/(h+1), the symbols that a repair of h dead nodes sends in all.
+    ///
+    /// ```
+    /// assert_eq!(archive::Shape { nodes: 4, data: 1, layers: 3 }.wire_symbols(2), Ok(96));
+    /// ```
+    pub fn wire_symbols(&self, dead_count: usize) -> Result<usize, Refusal> {
+        Ok(dead_count * (self.data + dead_count) * self.message_symbols(dead_count)?)
+    }
+}

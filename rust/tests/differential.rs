@@ -1,0 +1,462 @@
+//! The library beside the naive implementation on random, damaged and hostile inputs of every call. A failure prints
+//! its seed; ARCHIVE_SEED=.. makes that seed the first one tried.
+
+#[path = "naive/alone.rs"]
+mod alone;
+#[path = "naive/compare.rs"]
+mod compare;
+mod naive;
+
+use compare::Lists;
+use naive::judge::batch_layers;
+use naive::random::Random;
+use naive::{Header, Number, Shape};
+
+/// n × N of most inputs, but one layer is always allowed.
+const MOST_SYMBOLS: usize = 3000;
+
+/// Prints the seed if the test panics while it holds this.
+struct Seed(u64);
+
+impl Drop for Seed {
+    fn drop(&mut self) {
+        if std::thread::panicking() {
+            eprintln!("seed {}", self.0);
+        }
+    }
+}
+
+/// Runs so many cases, each with a seed of its own. Asserts that exactly these numbers came up, each in one of two
+/// hundred cases at least.
+fn try_cases(count: usize, numbers: &[Number], mut case: impl FnMut(&mut Random) -> Number) {
+    let first = std::env::var("ARCHIVE_SEED").map_or(1, |seed| seed.parse().expect("a number"));
+    let mut tally = [0; 10];
+    for seed in first..first + count as u64 {
+        let seed = Seed(seed);
+        tally[case(&mut Random::new(seed.0))] += 1;
+    }
+    println!("numbers 0 to 9 came up {tally:?}");
+    for (number, &times) in tally.iter().enumerate() {
+        assert_eq!(numbers.contains(&number), times > count / 200, "number {number} came up {times} times");
+    }
+}
+
+fn random_shape(random: &mut Random) -> Shape {
+    let bound = if random.once_in(40) { 20 * MOST_SYMBOLS } else { MOST_SYMBOLS };
+    random.shape(bound)
+}
+
+/// The symbols of the listed nodes.
+fn symbols_of(shape: Shape, nodes: &[u16], list: &[usize]) -> Vec<u16> {
+    let size = shape.symbols();
+    list.iter().flat_map(|&node| nodes[node * size..(node + 1) * size].to_vec()).collect()
+}
+
+#[test]
+fn write() {
+    try_cases(1500, &[0, 1, 4], |random| {
+        let mut shape = random_shape(random);
+        let length = random.below(shape.capacity() + 1);
+        let mut length = random.choose(&[0, 1, shape.capacity(), length]);
+        let mut nodes_length = shape.n * shape.symbols();
+        match random.below(8) {
+            0 => random.spoil_shape(&mut shape),
+            1 => length = shape.capacity() + random.between(1, 2),
+            2 => random.spoil_length(&mut nodes_length),
+            _ => {}
+        }
+        let transcript = random.bytes(length);
+        compare::write(random, shape, &transcript, nodes_length)
+    });
+}
+
+#[test]
+fn check() {
+    try_cases(1500, &[0, 1, 4, 5, 9], |random| {
+        let mut shape = random_shape(random);
+        let mut nodes = random.codeword(shape);
+        let last = nodes.len() - 1;
+        match random.below(10) {
+            0 => random.spoil_shape(&mut shape),
+            1 => drop(nodes.pop()),
+            2 => nodes.push(0),
+            3 => random.spoil_symbols(&mut nodes),
+            4 => nodes = random.symbols(nodes.len()),
+            5 => nodes[last] = random.symbol(),
+            6 | 7 => {
+                for _ in 0..random.between(1, 3) {
+                    nodes[random.below(last + 1)] = random.symbol();
+                }
+            }
+            _ => {}
+        }
+        compare::check(shape, &nodes)
+    });
+}
+
+/// For every place, an archive that is wrong there alone, and whose first unmet equation has each t in turn.
+#[test]
+fn check_finds_every_equation() {
+    let mut random = Random::new(1);
+    let shape = Shape { n: 7, k: 2, layers: 2 };
+    let (size, r) = (shape.symbols(), shape.equations());
+    for place in 0..size {
+        let t = place % r;
+        let mut nodes = random.codeword(shape);
+        // Adding a solution of the first t equations leaves t as the first unmet one.
+        let points: Vec<u32> = (0..=t).map(|node| naive::code::point(node, place % shape.width())).collect();
+        let change = naive::field::solve_parity(&[(points[t], 1)], &points[..t]).unwrap();
+        for (node, value) in change.into_iter().chain([1]).enumerate() {
+            let symbol = &mut nodes[node * size + place];
+            *symbol = naive::field::add(u32::from(*symbol), value) as u16;
+        }
+        let unmet = archive::Checked::Unmet { layer: place / shape.width(), a: place % shape.width(), t };
+        let checked = archive::Shape { nodes: 7, data: 2, layers: 2 }.check(&nodes);
+        assert_eq!(checked, Ok(unmet));
+    }
+}
+
+#[test]
+fn restore() {
+    try_cases(1500, &[0, 1, 2, 4, 5], |random| {
+        let mut shape = random_shape(random);
+        let mut list = random.nodes(shape, shape.k);
+        let mut length = shape.capacity();
+        let mut nodes_length = shape.n * shape.symbols();
+        let mut n = shape.n;
+        let mut symbols = random.symbols(length);
+        for _ in 0..random.below(3) {
+            match random.below(10) {
+                0 => random.spoil_shape(&mut shape),
+                1 | 2 if !list.is_empty() => random.spoil_list(n, &mut list),
+                3 => random.spoil_length(&mut length),
+                4 => random.spoil_length(&mut nodes_length),
+                5 => random.spoil_symbols(&mut symbols),
+                _ => n = 12,
+            }
+        }
+        symbols.resize(length, 256);
+        compare::restore(random, shape, &list, &symbols, nodes_length)
+    });
+}
+
+/// Data nodes of a transcript of that length, or nearly: what is wrong with them makes the refusal 7.
+fn random_data(random: &mut Random, shape: Shape, length: usize) -> Vec<u16> {
+    let mut data: Vec<u16> = random.bytes(length).into_iter().map(u16::from).collect();
+    data.resize(shape.capacity(), 0);
+    match random.below(6) {
+        0 if length > 0 => data[random.choose(&[0, length - 1, length / 2])] = 256,
+        1 if length < data.len() => data[length] = 1,
+        2 if length < data.len() => *data.last_mut().unwrap() = 256,
+        3 if length < data.len() => data[random.between(length, shape.capacity() - 1)] = random.symbol(),
+        _ => {}
+    }
+    data
+}
+
+#[test]
+fn open() {
+    try_cases(1500, &[0, 1, 2, 4, 5, 7], |random| {
+        let mut shape = random_shape(random);
+        let capacity = shape.capacity();
+        let between = random.below(capacity + 1);
+        let mut length = random.choose(&[0, 1, capacity - 1, capacity, between, between]);
+        let data = random_data(random, shape, length);
+        let first: Vec<usize> = (0..shape.k).collect();
+        let nodes = naive::restore(shape, &first, &data, shape.n * shape.symbols()).unwrap();
+        let mut list = random.nodes(shape, shape.k);
+        let mut symbols = symbols_of(shape, &nodes, &list);
+        let mut transcript_length = length;
+        match random.below(16) {
+            0 => random.spoil_shape(&mut shape),
+            1 => random.spoil_list(shape.n, &mut list),
+            2 => random.spoil_symbols(&mut symbols),
+            3 => random.spoil_length(&mut transcript_length),
+            4 => drop(symbols.pop()),
+            5 => length = random.choose(&[capacity + 1, usize::MAX, 1 << 32, transcript_length + 1]),
+            6 => symbols[random.below(capacity)] = random.symbol(),
+            7 if length > 0 => {
+                // One byte shorter than was written: 7, unless that byte is 0.
+                length -= 1;
+                transcript_length = length;
+            }
+            8 => symbols = random.symbols(capacity),
+            _ => {}
+        }
+        compare::open(random, shape, &list, &symbols, length, transcript_length)
+    });
+}
+
+/// An accepted choice, but perhaps for the layers.
+fn random_lists(random: &mut Random) -> Lists {
+    let mut shape = random_shape(random);
+    let (dead, helpers) = random.dead_and_helpers(shape);
+    let s = batch_layers(dead.len());
+    if !random.once_in(8) {
+        shape.layers = (shape.layers / s).max(1) * s;
+    }
+    Lists { shape, dead, helpers }
+}
+
+/// N/(h+1), rounded down where N is not a multiple.
+fn message_length(lists: &Lists) -> usize {
+    lists.shape.symbols() / (lists.dead.len() + 1)
+}
+
+/// Spoils shape or lists.
+fn spoil_lists(random: &mut Random, lists: &mut Lists) {
+    let n = lists.shape.n;
+    match random.below(6) {
+        0 => random.spoil_shape(&mut lists.shape),
+        1 | 2 if !lists.dead.is_empty() => random.spoil_list(n, &mut lists.dead),
+        3 | 4 if !lists.helpers.is_empty() => random.spoil_list(n, &mut lists.helpers),
+        _ => {
+            // Dead nodes and helpers overlap.
+            if let (Some(dead), Some(helper)) = (lists.dead.first_mut(), lists.helpers.first()) {
+                *dead = *helper;
+            }
+        }
+    }
+}
+
+/// A node named that is not in its list.
+fn spoil_name(random: &mut Random, lists: &Lists, name: &mut usize) {
+    let helper = lists.helpers[0];
+    let dead = lists.dead[0];
+    *name = random.choose(&[helper, dead, lists.shape.n, usize::MAX, *name + (1 << 32), *name + 256]);
+}
+
+#[test]
+fn helper_message() {
+    try_cases(3000, &[0, 1, 2, 3, 4, 5], |random| {
+        let mut lists = random_lists(random);
+        let mut helper = random.choose(&lists.helpers);
+        let mut new = random.choose(&lists.dead);
+        let mut symbols = random.symbols(lists.shape.symbols());
+        let mut length = message_length(&lists);
+        match random.below(10) {
+            0 => spoil_name(random, &lists.clone(), &mut helper),
+            1 => spoil_name(random, &lists.clone(), &mut new),
+            2 => spoil_lists(random, &mut lists),
+            3 => random.spoil_symbols(&mut symbols),
+            4 => random.spoil_length(&mut length),
+            5 => symbols.push(0),
+            _ => {}
+        }
+        compare::helper_message(random, &lists, helper, new, &symbols, length)
+    });
+}
+
+#[test]
+fn first_step() {
+    try_cases(2000, &[0, 1, 2, 3, 4, 5], |random| {
+        let mut lists = random_lists(random);
+        let mut new = random.choose(&lists.dead);
+        let length = message_length(&lists);
+        let mut messages = random.symbols(lists.helpers.len() * length);
+        let mut pairs_length = 2 * length;
+        let mut sums_length = (lists.dead.len() - 1) * length;
+        match random.below(12) {
+            0 => spoil_name(random, &lists.clone(), &mut new),
+            1 | 2 => spoil_lists(random, &mut lists),
+            3 => random.spoil_symbols(&mut messages),
+            4 => random.spoil_length(&mut pairs_length),
+            5 => random.spoil_length(&mut sums_length),
+            6 => drop(messages.pop()),
+            _ => {}
+        }
+        compare::first_step(random, &lists, new, &messages, pairs_length, sums_length)
+    });
+}
+
+#[test]
+fn second_step() {
+    try_cases(3000, &[0, 1, 2, 3, 4, 5], |random| {
+        let mut lists = random_lists(random);
+        let mut new = random.choose(&lists.dead);
+        let length = message_length(&lists);
+        let mut pairs = random.symbols(2 * length);
+        let mut received = random.symbols((lists.dead.len() - 1) * length);
+        let mut symbols_length = lists.shape.symbols();
+        match random.below(12) {
+            0 => spoil_name(random, &lists.clone(), &mut new),
+            1 | 2 => spoil_lists(random, &mut lists),
+            3 => random.spoil_symbols(&mut pairs),
+            4 => random.spoil_symbols(&mut received),
+            5 => drop(pairs.pop()),
+            6 => received.push(0),
+            7 => random.spoil_length(&mut symbols_length),
+            _ => {}
+        }
+        compare::second_step(random, &lists, new, &pairs, &received, symbols_length)
+    });
+}
+
+#[test]
+fn repair() {
+    try_cases(1200, &[0, 1, 2, 3, 4, 5], |random| {
+        let mut lists = random_lists(random);
+        let (shape, h, size) = (lists.shape, lists.dead.len(), lists.shape.symbols());
+        let mut nodes = if random.once_in(2) { random.codeword(shape) } else { random.symbols(shape.n * size) };
+        // Only the helpers are looked at.
+        for node in (0..shape.n).filter(|node| !lists.helpers.contains(node)) {
+            nodes[node * size..(node + 1) * size].copy_from_slice(&random.garbage(size));
+        }
+        let mut wire_length = h * (shape.k + h) * message_length(&lists);
+        match random.below(10) {
+            0 | 1 => spoil_lists(random, &mut lists),
+            2 => random.spoil_symbols(&mut nodes[lists.helpers[0] * size..][..size]),
+            3 => random.spoil_symbols(&mut nodes[lists.helpers[shape.k] * size..][..size]),
+            4 => random.spoil_length(&mut wire_length),
+            5 => nodes.push(0),
+            _ => {}
+        }
+        compare::repair(random, &lists, &nodes, wire_length)
+    });
+}
+
+fn random_header(random: &mut Random) -> Header {
+    let shape = random_shape(random);
+    let between = random.below(shape.capacity() + 1);
+    Header { shape, node: random.below(shape.n), length: random.choose(&[0, 127, 128, shape.capacity(), between]) }
+}
+
+#[test]
+fn pack() {
+    try_cases(3000, &[0, 1, 2, 4, 5, 6], |random| {
+        let mut header = random_header(random);
+        let size = header.shape.symbols();
+        let capacity = header.shape.capacity();
+        let mut symbols = random.symbols(size);
+        let mut card_length = 15 + 2 * size;
+        for _ in 0..random.below(3) {
+            match random.below(8) {
+                0 => random.spoil_shape(&mut header.shape),
+                1 => header.node = random.choose(&[header.shape.n, usize::MAX, 1 << 32, (1 << 32) + 1, 256]),
+                2 => header.length = random.choose(&[capacity + 1, usize::MAX, 1 << 32, 1 << 21]),
+                3 => random.spoil_length(&mut card_length),
+                4 => drop(symbols.pop()),
+                5 => random.spoil_symbols(&mut symbols),
+                _ => {}
+            }
+        }
+        compare::pack(random, header, &symbols, card_length)
+    });
+}
+
+/// A number written in a form that is not the shortest, or too long, or cut.
+fn malformed(random: &mut Random) -> Vec<u8> {
+    let forms: [&[u8]; 5] = [&[128, 0], &[129, 128, 0], &[128, 128, 128, 1], &[255, 255, 255, 255], &[128]];
+    random.choose(&forms).to_vec()
+}
+
+/// A card that is made number by number, so that each can be wrong in its form or its value.
+fn random_card(random: &mut Random, header: Header) -> Vec<u8> {
+    let size = header.shape.symbols();
+    let Header { shape, node, length } = header;
+    let mut numbers = vec![shape.n, shape.k, shape.layers, node, length];
+    numbers.extend(random.symbols(size).into_iter().map(usize::from));
+    let spoiled = |random: &mut Random| {
+        let index = random.below(5 + size);
+        let near_front = random.below(10);
+        random.choose(&[index, near_front, 4 + size])
+    };
+    let mut malformed_at = None;
+    match random.below(6) {
+        0 => malformed_at = Some(spoiled(random)),
+        1 => numbers[spoiled(random)] = random.choose(&[0, 13, 16, 257, 16383, 16384, 1 << 20, (1 << 21) - 1]),
+        2 => {
+            malformed_at = Some(spoiled(random));
+            numbers[spoiled(random)] = 257;
+        }
+        _ => {}
+    }
+    let mut card = Vec::new();
+    for (index, &number) in numbers.iter().enumerate() {
+        match malformed_at {
+            Some(place) if place == index => card.extend(malformed(random)),
+            _ => naive::card::put_number(&mut card, number),
+        }
+    }
+    card
+}
+
+#[test]
+fn unpack() {
+    try_cases(3000, &[0, 1, 2, 4, 5, 6], |random| {
+        let mut header = random_header(random);
+        let mut symbols_length = header.shape.symbols();
+        let mut header_length = 5;
+        match random.below(12) {
+            0 => header.node = header.shape.n,
+            1 => header.length = header.shape.capacity() + 1,
+            2 | 3 => random.spoil_length(&mut symbols_length),
+            4 => header_length = random.choose(&[0, 4, 6]),
+            _ => {}
+        }
+        let mut card = random_card(random, header);
+        match random.below(10) {
+            0 => card.truncate(random.below(card.len())),
+            1 => card.push(random.choose(&[0, 128])),
+            2 => drop(card.pop()),
+            _ => {}
+        }
+        compare::unpack(random, &card, symbols_length, header_length)
+    });
+}
+
+#[test]
+fn plan() {
+    try_cases(20000, &[0, 1, 2, 3, 4, 6], |random| {
+        let mut lists = random_lists(random);
+        if random.once_in(3) {
+            spoil_lists(random, &mut lists);
+        }
+        let Lists { shape, dead, helpers } = lists;
+        let mut input = Vec::new();
+        let h = if random.once_in(10) { random.below(12) } else { dead.len() };
+        for &number in [shape.n, shape.k, shape.layers, h].iter().chain(&dead).chain(&helpers) {
+            naive::card::put_number(&mut input, number);
+        }
+        match random.below(8) {
+            0 => drop(input.pop()),
+            1 => input.push(random.choose(&[0, 128])),
+            2 => {
+                let at = random.below(input.len());
+                input.splice(at..at + 1, malformed(random));
+            }
+            _ => {}
+        }
+        let text_length =
+            if random.once_in(20) { archive::PLAN_TEXT - 1 } else { archive::PLAN_TEXT + random.below(9) };
+        compare::plan(random, &input, text_length)
+    });
+}
+
+/// The ends of the range of shapes, with fifteen layers: written, checked, restored, opened, repaired, packed.
+#[test]
+fn largest_shapes() {
+    let mut random = Random::new(1);
+    for (n, k, dead_count) in [(12, 10, 1), (12, 6, 5), (12, 1, 4), (3, 1, 1)] {
+        let shape = Shape { n, k, layers: 15 };
+        let (size, all) = (shape.symbols(), n * shape.symbols());
+        let transcript = random.bytes(shape.capacity());
+        assert_eq!(compare::write(&mut random, shape, &transcript, all), 0);
+        let nodes = naive::write(shape, &transcript, all).unwrap();
+        assert_eq!(compare::check(shape, &nodes), 0);
+        let list = random.nodes(shape, k);
+        let symbols = symbols_of(shape, &nodes, &list);
+        assert_eq!(compare::restore(&mut random, shape, &list, &symbols, all), 0);
+        assert_eq!(compare::open(&mut random, shape, &list, &symbols, transcript.len(), transcript.len()), 0);
+        let dead = random.nodes(shape, dead_count);
+        let living: Vec<usize> = (0..n).filter(|node| !dead.contains(node)).collect();
+        let helpers = random.some_of(&living, k + 1);
+        let wire_length = dead_count * (k + dead_count) * size / (dead_count + 1);
+        let lists = Lists { shape, dead, helpers };
+        assert_eq!(compare::repair(&mut random, &lists, &nodes, wire_length), 0);
+        let header = Header { shape, node: n - 1, length: transcript.len() };
+        assert_eq!(compare::pack(&mut random, header, &nodes[all - size..], 15 + 2 * size), 0);
+        let card = naive::pack(header, &nodes[all - size..], 15 + 2 * size).unwrap();
+        assert_eq!(compare::unpack(&mut random, &card, size, 5), 0);
+    }
+}

@@ -1,0 +1,139 @@
+//! Random and mutated cards and plan inputs, library beside naive implementation, for as many seconds each as the
+//! environment's ARCHIVE_FUZZ_SECONDS says (3 if it says nothing). ARCHIVE_SEED=.. makes another series of inputs.
+
+#[path = "naive/compare.rs"]
+mod compare;
+mod naive;
+
+use naive::random::Random;
+use naive::{Header, Shape};
+use std::time::{Duration, Instant};
+
+fn from_environment(name: &str, otherwise: u64) -> u64 {
+    std::env::var(name).map_or(otherwise, |value| value.parse().expect("a number"))
+}
+
+/// Tries inputs made by `make` until the time is over; prints how many, and the input of a failure.
+fn fuzz(make: fn(&mut Random) -> Vec<u8>, compare: fn(&mut Random, &[u8]) -> usize) -> [usize; 10] {
+    let mut random = Random::new(from_environment("ARCHIVE_SEED", 1));
+    let time = Duration::from_secs(from_environment("ARCHIVE_FUZZ_SECONDS", 3));
+    let start = Instant::now();
+    let mut tally = [0; 10];
+    while start.elapsed() < time {
+        for _ in 0..100 {
+            let input = Shown(make(&mut random));
+            tally[compare(&mut random, &input.0)] += 1;
+        }
+    }
+    println!("numbers 0 to 9 came up {tally:?}");
+    tally
+}
+
+/// Prints the input if the test panics while it holds this.
+struct Shown(Vec<u8>);
+
+impl Drop for Shown {
+    fn drop(&mut self) {
+        if std::thread::panicking() {
+            eprintln!("input {:?}", self.0);
+        }
+    }
+}
+
+/// A byte of the kind that matters: small, at an edge of the seven-bit form, or any.
+fn byte(random: &mut Random) -> u8 {
+    let any = random.next() as u8;
+    let small = random.below(16) as u8;
+    random.choose(&[any, small, small, 0, 1, 127, 128, 129, 255])
+}
+
+/// Changes, cuts, extends, doubles or drops bytes.
+fn mutate(random: &mut Random, bytes: &mut Vec<u8>) {
+    let at = random.below(bytes.len() + 1);
+    match random.below(7) {
+        0 | 1 if at < bytes.len() => bytes[at] = byte(random),
+        2 => bytes.insert(at, byte(random)),
+        3 if at < bytes.len() => drop(bytes.drain(at..at + 1)),
+        4 => bytes.truncate(at),
+        5 => bytes.push(byte(random)),
+        6 if at < bytes.len() => bytes[at] ^= 1 << random.below(8),
+        _ => {}
+    }
+}
+
+fn mutated(random: &mut Random, mut bytes: Vec<u8>) -> Vec<u8> {
+    for _ in 0..random.choose(&[0, 1, 1, 1, 2, 3, 8]) {
+        mutate(random, &mut bytes);
+    }
+    bytes
+}
+
+fn random_bytes(random: &mut Random) -> Vec<u8> {
+    let count = random.below(60);
+    (0..count).map(|_| byte(random)).collect()
+}
+
+fn card(random: &mut Random) -> Vec<u8> {
+    if random.once_in(8) {
+        return random_bytes(random);
+    }
+    let n = random.choose(&[3, 3, 3, 4, 5]);
+    let shape = Shape { n, k: random.between(1, n - 2), layers: random.choose(&[1, 1, 2, 15]) };
+    let length = random.below(shape.capacity() + 1);
+    let header = Header { shape, node: random.below(n), length };
+    let symbols = random.symbols(shape.symbols());
+    let good = naive::pack(header, &symbols, 15 + 2 * symbols.len()).unwrap();
+    mutated(random, good)
+}
+
+/// Unpacks into a buffer of the length that the card announces, if it does, or another.
+fn unpack(random: &mut Random, card: &[u8]) -> usize {
+    let announced = naive::card::take_shape(&mut &card[..]).ok();
+    let length = match announced {
+        Some(shape) if shape.n <= 12 && shape.layers <= 15 && !random.once_in(20) => shape.symbols(),
+        _ => random.below(100),
+    };
+    let number = compare::unpack(random, card, length, 5);
+    if number == 0 {
+        assert_packs_again(card, length);
+    }
+    number
+}
+
+/// An accepted card packed again gives the same bytes.
+fn assert_packs_again(card: &[u8], length: usize) {
+    let mut symbols = vec![0; length];
+    let header = archive::unpack(card, &mut symbols).unwrap();
+    assert_eq!(header.shape.pack_to_vec(header.node, header.length, &symbols).unwrap(), card);
+}
+
+#[test]
+fn cards() {
+    let tally = fuzz(card, unpack);
+    for number in [0, 1, 2, 4, 5, 6] {
+        assert!(tally[number] > 0, "number {number} never came up");
+    }
+}
+
+fn plan_input(random: &mut Random) -> Vec<u8> {
+    if random.once_in(8) {
+        return random_bytes(random);
+    }
+    let n = random.between(3, 12);
+    let shape = Shape { n, k: random.between(1, n - 2), layers: random.between(1, 15) };
+    let (dead, helpers) = random.dead_and_helpers(shape);
+    let front = [shape.n, shape.k, shape.layers, dead.len()];
+    let mut good = Vec::new();
+    for &number in front.iter().chain(&dead).chain(&helpers) {
+        naive::card::put_number(&mut good, number);
+    }
+    mutated(random, good)
+}
+
+#[test]
+fn plans() {
+    let tally = fuzz(plan_input, |random, input| compare::plan(random, input, archive::PLAN_TEXT));
+    for number in [0, 1, 2, 3, 6] {
+        assert!(tally[number] > 0, "number {number} never came up");
+    }
+}

@@ -1,0 +1,157 @@
+//! The naive implementation checked on its own: the samples of document 01, the parity equations by
+//! their definition, transcripts opened from any nodes, and repairs.
+
+use super::naive::card::{put_number, take_number};
+use super::naive::code::point;
+use super::naive::field::{power, MODULUS, POINTS};
+use super::naive::random::Random;
+use super::naive::repair::Repair;
+use super::naive::*;
+
+const SMALL: Shape = Shape { n: 3, k: 1, layers: 1 };
+
+fn first_archive() -> Vec<u16> {
+    write(SMALL, &[3, 6], 24).unwrap()
+}
+
+#[test]
+fn points_are_powers_of_three() {
+    for (i, &p) in POINTS.iter().enumerate() {
+        assert_eq!(p, power(3, i as u32));
+    }
+}
+
+#[test]
+fn sample_archives() {
+    let nodes = first_archive();
+    assert_eq!(nodes[8..16], [253, 247, 0, 0, 0, 0, 0, 0]);
+    assert_eq!(nodes[16..24], [1, 4, 0, 0, 0, 0, 0, 0]);
+    let nodes = write(SMALL, &[0, 0, 0, 6], 24).unwrap();
+    assert_eq!((nodes[8 + 3], nodes[16 + 3]), (252, 256));
+}
+
+#[test]
+fn sample_repair() {
+    let nodes = first_archive();
+    let (repaired, wire) = repair(SMALL, &[0], &[1, 2], &nodes, 8).unwrap();
+    assert_eq!(wire, [243, 0, 0, 0, 5, 0, 0, 0]);
+    assert_eq!(repaired, nodes);
+}
+
+#[test]
+fn sample_classes() {
+    let shape = Shape { n: 5, k: 1, layers: 1 };
+    let repair = Repair::judged(shape, &[0, 1, 2], &[3, 4]).unwrap();
+    let classes: Vec<usize> = (0..8).map(|a| repair.class(a)).collect();
+    assert_eq!(classes, [0, 1, 2, 3, 3, 2, 1, 0]);
+}
+
+#[test]
+fn sample_ranks() {
+    let shape = Shape { n: 7, k: 1, layers: 3 };
+    let repair = Repair::judged(shape, &[0, 1, 2, 3, 4], &[5, 6]).unwrap();
+    let table: Vec<(usize, usize)> = (0..5).map(|rank| repair.class_and_partner(rank)).collect();
+    assert_eq!(table, [(0, 0), (0, 1), (0, 2), (1, 1), (1, 2)]);
+}
+
+#[test]
+fn sample_card() {
+    let header = Header { shape: SMALL, node: 1, length: 2 };
+    let symbols = &first_archive()[8..16];
+    let card = pack(header, symbols, 31).unwrap();
+    assert_eq!(card, [3, 1, 1, 1, 2, 253, 1, 247, 1, 0, 0, 0, 0, 0, 0]);
+    assert_eq!(unpack(&card, 8), Ok((header, symbols.to_vec())));
+}
+
+#[test]
+fn sample_numbers() {
+    for (number, bytes) in [(127, vec![127]), (128, vec![128, 1]), (256, vec![128, 2])] {
+        let mut written = Vec::new();
+        put_number(&mut written, number);
+        assert_eq!(written, bytes);
+        assert_eq!(take_number(&mut &bytes[..]), Ok(number));
+    }
+    let card = |symbol: [u8; 2]| [&[3, 1, 1, 1, 2], &symbol[..], &[0; 7]].concat();
+    assert_eq!(unpack(&card([129, 2]), 8), Err(5));
+    assert_eq!(unpack(&card([128, 0]), 8), Err(6));
+}
+
+#[test]
+fn sample_plan() {
+    let text = "4 1 3 2\n2 0 16\n3 0 16\n2 1 16\n3 1 16\n1 0 16\n0 1 16\n96\n";
+    assert_eq!(plan(&[4, 1, 3, 2, 0, 1, 2, 3]), text);
+}
+
+#[test]
+fn sample_refusals() {
+    assert_eq!(repair(SMALL, &[0, 1], &[1, 2], &[], 0), Err(2));
+    let (n, k) = (4, 1);
+    let one = Shape { n, k, layers: 1 };
+    let three = Shape { n, k, layers: 3 };
+    assert_eq!(repair(one, &[0, 1], &[2, 3], &[0; 64], 0), Err(3));
+    assert!(repair(three, &[0, 1], &[2, 3], &[0; 192], 96).is_ok());
+    let mut node = [0; 8];
+    node[0] = 87;
+    assert_eq!(open(SMALL, &[1], &node, 1, 1), Err(7));
+}
+
+#[test]
+fn empty_transcript() {
+    assert_eq!(write(SMALL, &[], 24), Ok(vec![0; 24]));
+    assert_eq!(open(SMALL, &[2], &[0; 8], 0, 0), Ok(vec![]));
+}
+
+/// "For every layer, every a and every t from 0 to r−1, the sum over the nodes of point^t × symbol
+/// is 0", word by word.
+fn is_codeword(shape: Shape, nodes: &[u16]) -> bool {
+    (0..shape.symbols()).all(|place| {
+        (0..shape.equations()).all(|t| {
+            let a = place % shape.width();
+            let term = |i| power(point(i, a), t as u32) * u32::from(nodes[i * shape.symbols() + place]);
+            (0..shape.n).map(term).sum::<u32>() % MODULUS == 0
+        })
+    })
+}
+
+#[test]
+fn written_is_a_codeword_and_opens_from_any_nodes() {
+    let mut random = Random::new(1);
+    for _ in 0..60 {
+        let shape = random.shape(6000);
+        let length = random.between(0, shape.capacity());
+        let transcript = random.bytes(length);
+        let size = shape.symbols();
+        let nodes = write(shape, &transcript, shape.n * size).unwrap();
+        assert!(is_codeword(shape, &nodes));
+        assert_eq!(check(shape, &nodes), Ok(None));
+        let list = random.nodes(shape, shape.k);
+        let symbols: Vec<u16> =
+            (list.iter()).flat_map(|&node| nodes[node * size..(node + 1) * size].to_vec()).collect();
+        assert_eq!(restore(shape, &list, &symbols, nodes.len()), Ok(nodes));
+        assert_eq!(open(shape, &list, &symbols, length, length), Ok(transcript));
+    }
+}
+
+#[test]
+fn repairs_are_exact() {
+    let mut random = Random::new(2);
+    let mut accepted = 0;
+    while accepted < 60 {
+        let shape = random.shape(6000);
+        let (dead, helpers) = random.dead_and_helpers(shape);
+        let (h, size) = (dead.len(), shape.symbols());
+        let wire_length = h * (shape.k + h) * size / (h + 1);
+        let nodes = random.codeword(shape);
+        let mut damaged = nodes.clone();
+        for &node in &dead {
+            damaged[node * size..(node + 1) * size].fill(65535);
+        }
+        match repair(shape, &dead, &helpers, &damaged, wire_length) {
+            Ok((repaired, wire)) => {
+                assert_eq!((repaired, wire.len()), (nodes, wire_length));
+                accepted += 1;
+            }
+            Err(number) => assert_eq!(number, 3),
+        }
+    }
+}

@@ -1,0 +1,166 @@
+//! One call of the library beside the naive one: the same number or result, and every lent buffer, which held garbage
+//! before, is afterwards exactly what it has to be. Each function returns the number, 0 where the call did its work.
+#![allow(dead_code)] // each test program uses a part of it
+
+use super::naive::lent::Lent;
+use super::naive::random::Random;
+use super::naive::{self, Header, Number, Shape};
+use archive::{Checked, Refusal};
+
+fn library(shape: Shape) -> archive::Shape {
+    archive::Shape { nodes: shape.n, data: shape.k, layers: shape.layers }
+}
+
+/// Asserts that both did their work or turned back with the same number. Gives the number and what was made.
+fn agreed<T, U: Default>(answer: Result<T, Refusal>, expected: Result<U, Number>) -> (Number, U) {
+    let number = answer.err().map_or(0, Refusal::number);
+    match expected {
+        Ok(made) => {
+            assert_eq!(number, 0, "the library refuses what is to be accepted");
+            (0, made)
+        }
+        Err(refusal) => {
+            assert_eq!(number, refusal, "the library's number");
+            (refusal, U::default())
+        }
+    }
+}
+
+pub fn write(random: &mut Random, shape: Shape, transcript: &[u8], nodes_length: usize) -> Number {
+    let mut nodes = Lent::symbols(random, nodes_length);
+    let answer = library(shape).write(transcript, nodes.slice());
+    let (number, made) = agreed(answer, naive::write(shape, transcript, nodes_length));
+    nodes.assert_holds(&made);
+    number
+}
+
+/// 9 where an equation is unmet.
+pub fn check(shape: Shape, nodes: &[u16]) -> Number {
+    let answer = library(shape).check(nodes).map(|checked| match checked {
+        Checked::Sound => None,
+        Checked::Unmet { layer, a, t } => Some((layer, a, t)),
+    });
+    assert_eq!(answer.map_err(Refusal::number), naive::check(shape, nodes));
+    match answer {
+        Ok(None) => 0,
+        Ok(Some(_)) => 9,
+        Err(refusal) => refusal.number(),
+    }
+}
+
+pub fn restore(random: &mut Random, shape: Shape, list: &[usize], symbols: &[u16], nodes_length: usize) -> Number {
+    let mut nodes = Lent::symbols(random, nodes_length);
+    let answer = library(shape).restore(list, symbols, nodes.slice());
+    let (number, made) = agreed(answer, naive::restore(shape, list, symbols, nodes_length));
+    nodes.assert_holds(&made);
+    number
+}
+
+pub fn open(
+    random: &mut Random, shape: Shape, list: &[usize], symbols: &[u16], length: usize, transcript_length: usize,
+) -> Number {
+    let mut transcript = Lent::bytes(random, transcript_length);
+    let answer = library(shape).open(list, symbols, length, transcript.slice());
+    let (number, made) = agreed(answer, naive::open(shape, list, symbols, length, transcript_length));
+    transcript.assert_holds(&made);
+    number
+}
+
+/// What all calls of a repair are given.
+#[derive(Clone, Debug)]
+pub struct Lists {
+    pub shape: Shape,
+    pub dead: Vec<usize>,
+    pub helpers: Vec<usize>,
+}
+
+pub fn helper_message(
+    random: &mut Random, lists: &Lists, helper: usize, new: usize, symbols: &[u16], message_length: usize,
+) -> Number {
+    let Lists { shape, dead, helpers } = lists;
+    let mut message = Lent::symbols(random, message_length);
+    let answer = library(*shape).helper_message(dead, helpers, helper, new, symbols, message.slice());
+    let expected = naive::helper_message(*shape, dead, helpers, helper, new, symbols, message_length);
+    let (number, made) = agreed(answer, expected);
+    message.assert_holds(&made);
+    number
+}
+
+pub fn first_step(
+    random: &mut Random, lists: &Lists, new: usize, messages: &[u16], pairs_length: usize, sums_length: usize,
+) -> Number {
+    let Lists { shape, dead, helpers } = lists;
+    let mut pairs = Lent::symbols(random, pairs_length);
+    let mut sums = Lent::symbols(random, sums_length);
+    let answer = library(*shape).first_step(dead, helpers, new, messages, pairs.slice(), sums.slice());
+    let expected = naive::first_step(*shape, dead, helpers, new, messages, pairs_length, sums_length);
+    let (number, made) = agreed(answer, expected);
+    pairs.assert_holds(&made.0);
+    sums.assert_holds(&made.1);
+    number
+}
+
+pub fn second_step(
+    random: &mut Random, lists: &Lists, new: usize, pairs: &[u16], received: &[u16], symbols_length: usize,
+) -> Number {
+    let Lists { shape, dead, helpers } = lists;
+    let mut symbols = Lent::symbols(random, symbols_length);
+    let answer = library(*shape).second_step(dead, helpers, new, pairs, received, symbols.slice());
+    let expected = naive::second_step(*shape, dead, helpers, new, pairs, received, symbols_length);
+    let (number, made) = agreed(answer, expected);
+    symbols.assert_holds(&made);
+    number
+}
+
+pub fn repair(random: &mut Random, lists: &Lists, before: &[u16], wire_length: usize) -> Number {
+    let Lists { shape, dead, helpers } = lists;
+    let mut nodes = Lent::around(before);
+    let mut wire = Lent::symbols(random, wire_length);
+    let answer = library(*shape).repair(dead, helpers, nodes.slice(), wire.slice());
+    let (number, made) = agreed(answer, naive::repair(*shape, dead, helpers, before, wire_length));
+    nodes.assert_holds(&made.0);
+    wire.assert_holds(&made.1);
+    number
+}
+
+pub fn pack(random: &mut Random, header: Header, symbols: &[u16], card_length: usize) -> Number {
+    let mut card = Lent::bytes(random, card_length);
+    let answer = library(header.shape).pack(header.node, header.length, symbols, card.slice());
+    let (number, made) = agreed(answer, naive::pack(header, symbols, card_length));
+    assert_eq!(answer.unwrap_or(0), made.len());
+    card.assert_holds(&made);
+    number
+}
+
+/// The library's header buffer has five numbers and is judged with the symbols' buffer: in document 01's terms, a wrong
+/// one is a lent buffer not of the exact length.
+pub fn unpack(random: &mut Random, card: &[u8], symbols_length: usize, header_length: usize) -> Number {
+    let mut symbols = Lent::symbols(random, symbols_length);
+    let mut header = Lent::numbers(header_length);
+    let answer = archive::unpack_into(card, symbols.slice(), header.slice());
+    let exact = if header_length == 5 { symbols_length } else { usize::MAX };
+    let expected = naive::unpack(card, exact).map(|(header, symbols)| {
+        let Header { shape, node, length } = header;
+        (vec![shape.n, shape.k, shape.layers, node, length], symbols)
+    });
+    let (number, made) = agreed(answer, expected);
+    header.assert_holds(&made.0);
+    symbols.assert_holds(&made.1);
+    number
+}
+
+/// The number that the plan's text is, and 0 for a plan; 4 where the text buffer is too short.
+pub fn plan(random: &mut Random, input: &[u8], text_length: usize) -> Number {
+    let mut text = Lent::bytes(random, text_length);
+    let answer = archive::plan(input, text.slice());
+    let printed = naive::plan(input);
+    assert!(printed.len() <= archive::PLAN_TEXT);
+    let expected = if text_length < archive::PLAN_TEXT { None } else { Some(printed.as_str()) };
+    assert_eq!(answer, expected.map(str::len));
+    text.assert_holds(expected.unwrap_or("").as_bytes());
+    match expected {
+        None => 4,
+        Some(line) if line.len() == 2 => line[..1].parse().unwrap(),
+        Some(_) => 0,
+    }
+}

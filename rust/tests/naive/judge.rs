@@ -1,0 +1,105 @@
+//! The shape of an archive, and the causes 1 to 5 of "When a call turns back".
+
+/// A refusal number of document 01.
+pub type Number = usize;
+
+#[derive(Clone, Copy, Debug, PartialEq, Eq)]
+pub struct Shape {
+    pub n: usize,
+    pub k: usize,
+    pub layers: usize,
+}
+
+impl Shape {
+    /// The places of one layer, 2^n.
+    pub fn width(self) -> usize {
+        1 << self.n
+    }
+
+    /// N, the symbols of a node.
+    pub fn symbols(self) -> usize {
+        self.layers * self.width()
+    }
+
+    /// r, the parity equations of a place.
+    pub fn equations(self) -> usize {
+        self.n - self.k
+    }
+
+    /// The bytes of the longest transcript, k × N.
+    pub fn capacity(self) -> usize {
+        self.k * self.symbols()
+    }
+}
+
+fn refuse_unless(holds: bool, number: Number) -> Result<(), Number> {
+    if holds {
+        Ok(())
+    } else {
+        Err(number)
+    }
+}
+
+/// "n is 3 to 12, k is 1 to n−2 .. L is 1 to 15."
+pub fn judge_shape(shape: Shape) -> Result<(), Number> {
+    let n = (3..=12).contains(&shape.n);
+    let k = n && (1..=shape.n - 2).contains(&shape.k);
+    refuse_unless(k && (1..=15).contains(&shape.layers), 1)
+}
+
+pub fn judge_node(shape: Shape, node: usize) -> Result<(), Number> {
+    refuse_unless(node < shape.n, 2)
+}
+
+fn is_node_list(shape: Shape, list: &[usize]) -> bool {
+    list.iter().all(|&node| node < shape.n) && list.windows(2).all(|pair| pair[0] < pair[1])
+}
+
+/// The list of restore and open: k nodes, rising.
+pub fn judge_list(shape: Shape, list: &[usize]) -> Result<(), Number> {
+    refuse_unless(list.len() == shape.k && is_node_list(shape, list), 2)
+}
+
+/// "Dead nodes number h, 1 to n−k−1. Helpers are exactly k+1 other nodes, rising."
+pub fn judge_lists(shape: Shape, dead: &[usize], helpers: &[usize]) -> Result<(), Number> {
+    judge_dead_count(shape, dead.len())?;
+    let lists = is_node_list(shape, dead) && is_node_list(shape, helpers);
+    let apart = dead.iter().all(|node| !helpers.contains(node));
+    refuse_unless(lists && helpers.len() == shape.k + 1 && apart, 2)
+}
+
+pub fn judge_dead_count(shape: Shape, h: usize) -> Result<(), Number> {
+    refuse_unless((1..=shape.equations() - 1).contains(&h), 2)
+}
+
+/// A new node or a helper named in a call is one of the list.
+pub fn judge_member(list: &[usize], node: usize) -> Result<(), Number> {
+    refuse_unless(list.contains(&node), 2)
+}
+
+/// s, the odd part of h + 1: the layers of a batch.
+pub fn batch_layers(h: usize) -> usize {
+    let mut s = h + 1;
+    while s.is_multiple_of(2) {
+        s /= 2;
+    }
+    s
+}
+
+/// "L must be a multiple of s."
+pub fn judge_layers(shape: Shape, h: usize) -> Result<(), Number> {
+    refuse_unless(shape.layers.is_multiple_of(batch_layers(h)), 3)
+}
+
+/// The lengths of buffers, each beside the length it has to have.
+pub fn judge_lengths(lengths: &[(usize, usize)]) -> Result<(), Number> {
+    refuse_unless(lengths.iter().all(|(length, exact)| length == exact), 4)
+}
+
+pub fn judge_transcript(shape: Shape, length: usize) -> Result<(), Number> {
+    refuse_unless(length <= shape.capacity(), 4)
+}
+
+pub fn judge_symbols(symbols: &[u16]) -> Result<(), Number> {
+    refuse_unless(symbols.iter().all(|&symbol| symbol <= 256), 5)
+}

@@ -1,0 +1,161 @@
+//! A small seeded generator, and random inputs for the tests.
+
+use super::{restore, Shape};
+
+/// SplitMix64.
+pub struct Random(u64);
+
+impl Random {
+    pub fn new(seed: u64) -> Self {
+        Random(seed)
+    }
+
+    pub fn next(&mut self) -> u64 {
+        self.0 = self.0.wrapping_add(0x9E37_79B9_7F4A_7C15);
+        let mut z = self.0;
+        z = (z ^ (z >> 30)).wrapping_mul(0xBF58_476D_1CE4_E5B9);
+        z = (z ^ (z >> 27)).wrapping_mul(0x94D0_49BB_1331_11EB);
+        z ^ (z >> 31)
+    }
+
+    pub fn below(&mut self, bound: usize) -> usize {
+        (self.next() % bound as u64) as usize
+    }
+
+    /// From low to high, both included.
+    pub fn between(&mut self, low: usize, high: usize) -> usize {
+        low + self.below(high - low + 1)
+    }
+
+    /// True once in so many times.
+    pub fn once_in(&mut self, times: usize) -> bool {
+        self.below(times) == 0
+    }
+
+    pub fn choose<T: Copy>(&mut self, from: &[T]) -> T {
+        from[self.below(from.len())]
+    }
+
+    /// 0 to 256, the ends more often.
+    pub fn symbol(&mut self) -> u16 {
+        match self.below(16) {
+            0 => 0,
+            1 => 256,
+            2 => 255,
+            _ => self.below(257) as u16,
+        }
+    }
+
+    pub fn symbols(&mut self, count: usize) -> Vec<u16> {
+        (0..count).map(|_| self.symbol()).collect()
+    }
+
+    /// Anything of two bytes.
+    pub fn garbage(&mut self, count: usize) -> Vec<u16> {
+        (0..count).map(|_| self.next() as u16).collect()
+    }
+
+    pub fn bytes(&mut self, count: usize) -> Vec<u8> {
+        (0..count).map(|_| self.next() as u8).collect()
+    }
+
+    /// So many of the given nodes, in the order given.
+    pub fn some_of(&mut self, nodes: &[usize], count: usize) -> Vec<usize> {
+        let mut chosen = nodes.to_vec();
+        while chosen.len() > count {
+            let index = self.below(chosen.len());
+            chosen.remove(index);
+        }
+        chosen
+    }
+
+    /// A rising list of nodes of the shape.
+    pub fn nodes(&mut self, shape: Shape, count: usize) -> Vec<usize> {
+        let all: Vec<usize> = (0..shape.n).collect();
+        self.some_of(&all, count)
+    }
+
+    /// Any n and k in range, and layers that keep n × N within the bound, but at least one.
+    pub fn shape(&mut self, bound: usize) -> Shape {
+        let n = self.between(3, 12);
+        let k = self.between(1, n - 2);
+        let most_layers = (bound / (n << n)).clamp(1, 15);
+        Shape { n, k, layers: self.between(1, most_layers) }
+    }
+
+    /// Dead nodes and helpers of an accepted repair, but perhaps for the layers.
+    pub fn dead_and_helpers(&mut self, shape: Shape) -> (Vec<usize>, Vec<usize>) {
+        let h = self.between(1, shape.equations() - 1);
+        let dead = self.nodes(shape, h);
+        let living: Vec<usize> = (0..shape.n).filter(|node| !dead.contains(node)).collect();
+        let helpers = self.some_of(&living, shape.k + 1);
+        (dead, helpers)
+    }
+
+    /// A codeword of any symbols, 256 too: what random nodes 0 to k−1 restore to.
+    pub fn codeword(&mut self, shape: Shape) -> Vec<u16> {
+        let list: Vec<usize> = (0..shape.k).collect();
+        let data = self.symbols(shape.capacity());
+        restore(shape, &list, &data, shape.n * shape.symbols()).unwrap()
+    }
+
+    /// A number that is out of range or far off wherever it stands for the given one.
+    pub fn hostile(&mut self, number: usize) -> usize {
+        let low = number.wrapping_sub(1);
+        let truncates = number.wrapping_add(1 << self.choose(&[8, 16, 32, 63]));
+        let far = self.choose(&[0, 2, 13, 16, 64, 255, 256, 65535, usize::MAX, usize::MAX / 2 + 1]);
+        self.choose(&[low, number + 1, truncates, far])
+    }
+
+    pub fn spoil_shape(&mut self, shape: &mut Shape) {
+        match self.below(3) {
+            0 => shape.n = self.hostile(shape.n),
+            1 => {
+                shape.k = {
+                    let far = self.hostile(shape.k);
+                    self.choose(&[far, shape.n - 1, shape.n, 0])
+                }
+            }
+            _ => {
+                shape.layers = {
+                    let far = self.hostile(shape.layers);
+                    self.choose(&[far, 0, 16, 17])
+                }
+            }
+        }
+    }
+
+    pub fn spoil_length(&mut self, length: &mut usize) {
+        *length = match self.below(4) {
+            0 => length.saturating_sub(1),
+            1 => *length + 1,
+            2 => 0,
+            _ => *length * 2 + 1,
+        };
+    }
+
+    /// Changes the list in one of the ways a list can be wrong.
+    pub fn spoil_list(&mut self, n: usize, list: &mut Vec<usize>) {
+        let index = self.below(list.len());
+        match self.below(7) {
+            0 => {
+                list[index] = self.choose(&[n, n + 1, usize::MAX, 1 << 32, (1 << 32) + list[index], 256 + list[index]])
+            }
+            1 => list.push(self.below(n)),
+            2 => drop(list.remove(index)),
+            3 => list.insert(index, list[index]),
+            4 => list.reverse(),
+            5 => list[index] = self.below(n),
+            _ => *list = Vec::new(),
+        }
+    }
+
+    /// Puts a value above 256 somewhere, both ends more often.
+    pub fn spoil_symbols(&mut self, symbols: &mut [u16]) {
+        if !symbols.is_empty() {
+            let last = symbols.len() - 1;
+            let index = self.below(symbols.len());
+            symbols[self.choose(&[0, last, index, index])] = self.choose(&[257, 258, 511, 512, 513, 32768, 65535]);
+        }
+    }
+}

@@ -1,0 +1,523 @@
+//! Every cause of every call, alone and with each other cause: the number of the one that document 01 judges first, and
+//! every lent buffer as it was. The numbers here are written out from document 01.
+
+mod naive;
+
+use archive::{Checked, Refusal, Shape};
+use naive::lent::Lent;
+use naive::random::Random;
+
+const N: usize = 192;
+/// N/(h+1) of the two dead nodes below.
+const MESSAGE: usize = 64;
+const CAPACITY: usize = 2 * N;
+
+/// What the calls are given; `lent` and `lent_too` are the lengths of buffers to be filled.
+#[derive(Clone, PartialEq)]
+struct Input {
+    shape: Shape,
+    list: Vec<usize>,
+    dead: Vec<usize>,
+    helpers: Vec<usize>,
+    helper: usize,
+    new: usize,
+    node: usize,
+    length: usize,
+    transcript: Vec<u8>,
+    symbols: Vec<u16>,
+    received: Vec<u16>,
+    lent: usize,
+    lent_too: usize,
+}
+
+/// Accepted by each call once its symbols and lent lengths are put in. Node 3 neither is dead nor helps.
+fn accepted(symbols: Vec<u16>, lent: usize) -> Input {
+    Input {
+        shape: Shape { nodes: 6, data: 2, layers: 3 },
+        list: vec![0, 3],
+        dead: vec![1, 4],
+        helpers: vec![0, 2, 5],
+        helper: 2,
+        new: 4,
+        node: 5,
+        length: 5,
+        transcript: vec![7; 5],
+        symbols,
+        received: Vec::new(),
+        lent,
+        lent_too: 0,
+    }
+}
+
+/// A cause's name, its number, and how it is brought about.
+type Cause<T = Input> = (&'static str, usize, fn(&mut T));
+
+const SHAPE: &[Cause] = &[
+    ("n is 2", 1, |i| i.shape.nodes = 2),
+    ("n is 13", 1, |i| i.shape.nodes = 13),
+    ("n is 64", 1, |i| i.shape.nodes = 64),
+    ("n is 2^32 + 6", 1, |i| i.shape.nodes = (1 << 32) + 6),
+    ("n is the largest number", 1, |i| i.shape.nodes = usize::MAX),
+    ("k is 0", 1, |i| i.shape.data = 0),
+    ("k is n - 1", 1, |i| i.shape.data = 5),
+    ("k is 2^32 + 2", 1, |i| i.shape.data = (1 << 32) + 2),
+    ("k is the largest number", 1, |i| i.shape.data = usize::MAX),
+    ("L is 0", 1, |i| i.shape.layers = 0),
+    ("L is 16", 1, |i| i.shape.layers = 16),
+    ("L is 2^58 + 3", 1, |i| i.shape.layers = (1 << 58) + 3),
+    ("L is the largest number", 1, |i| i.shape.layers = usize::MAX),
+];
+
+/// The list of restore and open.
+const LIST: &[Cause] = &[
+    ("no node listed", 2, |i| i.list = vec![]),
+    ("too few nodes listed", 2, |i| i.list = vec![0]),
+    ("too many nodes listed", 2, |i| i.list = vec![0, 3, 4]),
+    ("list falling", 2, |i| i.list = vec![3, 0]),
+    ("node listed twice", 2, |i| i.list = vec![3, 3]),
+    ("node n listed", 2, |i| i.list = vec![0, 6]),
+    ("node 2^32 + 3 listed", 2, |i| i.list = vec![0, (1 << 32) + 3]),
+    ("largest number listed", 2, |i| i.list = vec![0, usize::MAX]),
+];
+
+const DEAD_AND_HELPERS: &[Cause] = &[
+    ("none dead", 2, |i| i.dead = vec![]),
+    ("n - k dead", 2, |i| i.dead = vec![0, 1, 3, 4]),
+    ("dead falling", 2, |i| i.dead = vec![4, 1]),
+    ("dead twice", 2, |i| i.dead = vec![4, 4]),
+    ("node n dead", 2, |i| i.dead = vec![4, 6]),
+    ("node 2^32 + 4 dead", 2, |i| i.dead = vec![4, (1 << 32) + 4]),
+    ("largest number dead", 2, |i| i.dead = vec![4, usize::MAX]),
+    ("no helper", 2, |i| i.helpers = vec![]),
+    ("k helpers", 2, |i| i.helpers = vec![0, 2]),
+    ("k + 2 helpers", 2, |i| i.helpers = vec![0, 2, 3, 5]),
+    ("helpers falling", 2, |i| i.helpers = vec![0, 5, 2]),
+    ("helper twice", 2, |i| i.helpers = vec![0, 2, 2]),
+    ("node n helps", 2, |i| i.helpers = vec![0, 2, 6]),
+    ("node 2^32 + 5 helps", 2, |i| i.helpers = vec![0, 2, (1 << 32) + 5]),
+    ("largest number helps", 2, |i| i.helpers = vec![0, 2, usize::MAX]),
+    ("the dead node 4 helps", 2, |i| i.helpers = vec![0, 2, 4]),
+    ("the dead node 1 helps", 2, |i| i.helpers = vec![1, 2, 5]),
+];
+
+const NEW_NODE: &[Cause] = &[
+    ("new node neither dead nor helper", 2, |i| i.new = 3),
+    ("new node is a helper", 2, |i| i.new = 2),
+    ("new node is n", 2, |i| i.new = 6),
+    ("new node is 2^32 + 4", 2, |i| i.new = (1 << 32) + 4),
+    ("new node is the largest number", 2, |i| i.new = usize::MAX),
+];
+
+const HELPER: &[Cause] = &[
+    ("helper neither dead nor listed", 2, |i| i.helper = 3),
+    ("helper is dead", 2, |i| i.helper = 1),
+    ("helper is n", 2, |i| i.helper = 6),
+    ("helper is 2^32 + 2", 2, |i| i.helper = (1 << 32) + 2),
+    ("helper is the largest number", 2, |i| i.helper = usize::MAX),
+];
+
+/// h + 1 is 3, and so is s.
+const LAYERS: &[Cause] = &[("L is 1", 3, |i| i.shape.layers = 1), ("L is 4", 3, |i| i.shape.layers = 4)];
+
+const TRANSCRIPT: &[Cause] = &[("transcript longer than k × N", 4, |i| i.transcript = vec![0; CAPACITY + 1])];
+
+const SYMBOLS_LENGTH: &[Cause] = &[
+    ("symbols one short", 4, |i| shrink(&mut i.symbols)),
+    ("symbols one long", 4, |i| grow(&mut i.symbols)),
+    ("no symbols", 4, |i| i.symbols = vec![]),
+];
+
+const RECEIVED_LENGTH: &[Cause] = &[
+    ("received one short", 4, |i| shrink(&mut i.received)),
+    ("received one long", 4, |i| grow(&mut i.received)),
+    ("nothing received", 4, |i| i.received = vec![]),
+];
+
+const LENT_LENGTH: &[Cause] = &[
+    ("lent buffer one short", 4, |i| i.lent = i.lent.wrapping_sub(1)),
+    ("lent buffer one long", 4, |i| i.lent = i.lent.wrapping_add(1)),
+    ("nothing lent", 4, |i| i.lent = 0),
+];
+
+const LENT_TOO_LENGTH: &[Cause] = &[
+    ("second lent buffer one short", 4, |i| i.lent_too = i.lent_too.wrapping_sub(1)),
+    ("second lent buffer one long", 4, |i| i.lent_too = i.lent_too.wrapping_add(1)),
+    ("no second lent buffer", 4, |i| i.lent_too = 0),
+];
+
+const LENGTH: &[Cause] = &[
+    ("length above k × N", 4, |i| (i.length, i.lent) = (CAPACITY + 1, CAPACITY + 1)),
+    ("length the largest number", 4, |i| i.length = usize::MAX),
+    ("length of another buffer", 4, |i| i.length = 9),
+];
+
+const SYMBOLS: &[Cause] = &[
+    ("second symbol 257", 5, |i| put(&mut i.symbols, 1, 257)),
+    ("a symbol 512", 5, |i| put(&mut i.symbols, 40, 512)),
+    ("last symbol 65535", 5, |i| put_last(&mut i.symbols, 65535)),
+];
+
+const RECEIVED: &[Cause] = &[
+    ("first received 257", 5, |i| put(&mut i.received, 0, 257)),
+    ("last received 65535", 5, |i| put_last(&mut i.received, 65535)),
+];
+
+fn put(symbols: &mut [u16], index: usize, symbol: u16) {
+    if let Some(place) = symbols.get_mut(index) {
+        *place = symbol;
+    }
+}
+
+fn put_last(symbols: &mut [u16], symbol: u16) {
+    if let Some(place) = symbols.last_mut() {
+        *place = symbol;
+    }
+}
+
+fn shrink(symbols: &mut Vec<u16>) {
+    symbols.pop();
+}
+
+/// One symbol more, like the last.
+fn grow(symbols: &mut Vec<u16>) {
+    symbols.push(symbols.last().copied().unwrap_or(0));
+}
+
+/// Tries each cause alone and with each other one. The causes stand in the order in which they are judged.
+fn try_causes<T: Clone + PartialEq>(input: T, causes: &[Cause<T>], call: fn(&T) -> usize) {
+    assert_eq!(call(&input), 0, "the input is accepted");
+    let mut pairs = 0;
+    for (index, (name, number, spoil)) in causes.iter().enumerate() {
+        let spoiled = changed(&input, &[*spoil]);
+        assert_eq!(call(&spoiled), *number, "{name}");
+        for (later_name, _, spoil_too) in &causes[index + 1..] {
+            let spoiled = changed(&input, &[*spoil, *spoil_too]);
+            // Causes that undo or replace one another are not there together.
+            if spoiled != input && spoiled == changed(&input, &[*spoil_too, *spoil]) {
+                assert_eq!(call(&spoiled), *number, "{name}, {later_name}");
+                pairs += 1;
+            }
+        }
+    }
+    println!("{} causes alone, {pairs} pairs of them", causes.len());
+    assert!(3 * pairs > causes.len() * (causes.len() - 1), "most pairs are tried");
+}
+
+fn changed<T: Clone>(input: &T, changes: &[fn(&mut T)]) -> T {
+    let mut changed = input.clone();
+    changes.iter().for_each(|change| change(&mut changed));
+    changed
+}
+
+/// "Elsewhere than in cards and the plan program, several causes yield the first by 1, 2, 3, 4, 5, 8, 7."
+fn in_order(causes: &[&[Cause]]) -> Vec<Cause> {
+    let causes = causes.concat();
+    let ranks: Vec<_> = causes.iter().map(|cause| [1, 2, 3, 4, 5, 8, 7].iter().position(|n| *n == cause.1)).collect();
+    assert!(ranks.is_sorted());
+    causes
+}
+
+/// The number of an answer; the buffers are as they were if it is not 0.
+fn judged<const BUFFERS: usize>(answer: Result<(), Refusal>, lent: [Lent<u16>; BUFFERS]) -> usize {
+    if answer.is_err() {
+        lent.into_iter().for_each(|buffer| buffer.assert_holds(&[]));
+    }
+    answer.err().map_or(0, Refusal::number)
+}
+
+fn garbage(length: usize) -> Lent<u16> {
+    Lent::symbols(&mut Random::new(1), length)
+}
+
+#[test]
+fn write() {
+    let input = accepted(vec![], 6 * N);
+    try_causes(input, &in_order(&[SHAPE, TRANSCRIPT, LENT_LENGTH]), |i| {
+        let mut nodes = garbage(i.lent);
+        judged(i.shape.write(&i.transcript, nodes.slice()), [nodes])
+    });
+}
+
+/// The check answers "unmet", here 9, only where nothing is refused.
+#[test]
+fn check() {
+    let unmet: &[Cause] = &[("first equation unmet", 9, |i| put(&mut i.symbols, 0, 1))];
+    let input = accepted(vec![0; 6 * N], 0);
+    let causes = [SHAPE, SYMBOLS_LENGTH, SYMBOLS, unmet].concat();
+    try_causes(input, &causes, |i| match i.shape.check(&i.symbols) {
+        Ok(Checked::Sound) => 0,
+        Ok(Checked::Unmet { layer, a, t }) => {
+            assert_eq!((layer, a, t), (0, 0, 0));
+            9
+        }
+        Err(refusal) => refusal.number(),
+    });
+}
+
+#[test]
+fn restore() {
+    let input = accepted(vec![3; CAPACITY], 6 * N);
+    try_causes(input, &in_order(&[SHAPE, LIST, SYMBOLS_LENGTH, LENT_LENGTH, SYMBOLS]), |i| {
+        let mut nodes = garbage(i.lent);
+        judged(i.shape.restore(&i.list, &i.symbols, nodes.slice()), [nodes])
+    });
+}
+
+/// Nodes 0 and 3 of the archive of five bytes 7: node 0 is handed in as it is, node 1 is worked out.
+#[test]
+fn open() {
+    let transcript: &[Cause] = &[
+        // 256 is 7 × 110: so node 1, which is worked out, stays 0.
+        ("a symbol within the length is 256", 7, |i| {
+            put(&mut i.symbols, 3, 256);
+            let scaled = i.symbols.get(N + 3).map_or(0, |symbol| symbol * 110 % 257);
+            put(&mut i.symbols, N + 3, scaled);
+        }),
+        ("the first symbol beyond the length is 1", 7, |i| put(&mut i.symbols, 5, 1)),
+        ("the last symbol of node 0 is 256", 7, |i| put(&mut i.symbols, N - 1, 256)),
+        ("the node worked out is not 0", 7, |i| put(&mut i.symbols, N + 9, 5)),
+    ];
+    let written = accepted(vec![], 0).shape.write_to_nodes(&[7; 5]).unwrap();
+    let input = accepted([&written[..N], &written[3 * N..4 * N]].concat(), 5);
+    let causes = [SHAPE, LIST, SYMBOLS_LENGTH, LENT_LENGTH, LENGTH, SYMBOLS, transcript];
+    try_causes(input, &in_order(&causes), |i| {
+        let mut lent = Lent::bytes(&mut Random::new(1), i.lent);
+        let answer = i.shape.open(&i.list, &i.symbols, i.length, lent.slice());
+        lent.assert_holds(if answer.is_ok() { &[7; 5] } else { &[] });
+        answer.err().map_or(0, Refusal::number)
+    });
+}
+
+#[test]
+fn helper_message() {
+    let input = accepted(vec![256; N], MESSAGE);
+    let causes = [SHAPE, DEAD_AND_HELPERS, NEW_NODE, HELPER, LAYERS, SYMBOLS_LENGTH, LENT_LENGTH, SYMBOLS];
+    try_causes(input, &in_order(&causes), |i| {
+        let mut message = garbage(i.lent);
+        let answer = i.shape.helper_message(&i.dead, &i.helpers, i.helper, i.new, &i.symbols, message.slice());
+        judged(answer, [message])
+    });
+}
+
+#[test]
+fn first_step() {
+    let mut input = accepted(vec![256; 3 * MESSAGE], 2 * MESSAGE);
+    input.lent_too = MESSAGE;
+    let lengths = [SYMBOLS_LENGTH, LENT_LENGTH, LENT_TOO_LENGTH].concat();
+    let causes = [SHAPE, DEAD_AND_HELPERS, NEW_NODE, LAYERS, &lengths, SYMBOLS];
+    try_causes(input, &in_order(&causes), |i| {
+        let (mut pairs, mut sums) = (garbage(i.lent), garbage(i.lent_too));
+        let answer = i.shape.first_step(&i.dead, &i.helpers, i.new, &i.symbols, pairs.slice(), sums.slice());
+        judged(answer, [pairs, sums])
+    });
+}
+
+#[test]
+fn second_step() {
+    let mut input = accepted(vec![256; 2 * MESSAGE], N);
+    input.received = vec![256; MESSAGE];
+    let lengths = [SYMBOLS_LENGTH, RECEIVED_LENGTH, LENT_LENGTH].concat();
+    let causes = [SHAPE, DEAD_AND_HELPERS, NEW_NODE, LAYERS, &lengths, SYMBOLS, RECEIVED];
+    try_causes(input, &in_order(&causes), |i| {
+        let mut symbols = garbage(i.lent);
+        let answer = i.shape.second_step(&i.dead, &i.helpers, i.new, &i.symbols, &i.received, symbols.slice());
+        judged(answer, [symbols])
+    });
+}
+
+/// The dead nodes and node 3 hold 65535 all the time, and are not looked at. Nodes 0 and 5, the ends of the buffer, help.
+#[test]
+fn repair() {
+    let mut nodes = vec![256; 6 * N];
+    for node in [1, 3, 4] {
+        nodes[node * N..(node + 1) * N].fill(65535);
+    }
+    let input = accepted(nodes, 2 * 4 * MESSAGE);
+    let causes = [SHAPE, DEAD_AND_HELPERS, LAYERS, SYMBOLS_LENGTH, LENT_LENGTH, SYMBOLS];
+    try_causes(input, &in_order(&causes), |i| {
+        let (mut nodes, mut wire) = (Lent::around(&i.symbols), garbage(i.lent));
+        let answer = i.shape.repair(&i.dead, &i.helpers, nodes.slice(), wire.slice());
+        judged(answer, [nodes, wire])
+    });
+}
+
+/// "Packing judges shape, node, length against k × N (6), buffer sizes, symbols."
+#[test]
+fn pack() {
+    let node: &[Cause] = &[
+        ("node is n", 2, |i| i.node = 6),
+        ("node is 2^32 + 5", 2, |i| i.node = (1 << 32) + 5),
+        ("node is the largest number", 2, |i| i.node = usize::MAX),
+    ];
+    let length: &[Cause] = &[
+        ("length above k × N", 6, |i| i.length = CAPACITY + 1),
+        ("length is 2^32 + 5", 6, |i| i.length = (1 << 32) + 5),
+        ("length is the largest number", 6, |i| i.length = usize::MAX),
+    ];
+    let input = accepted(vec![256; N], 15 + 2 * N);
+    let causes = [SHAPE, node, length, SYMBOLS_LENGTH, LENT_LENGTH, SYMBOLS].concat();
+    try_causes(input, &causes, |i| {
+        let mut card = Lent::bytes(&mut Random::new(1), i.lent);
+        let answer = i.shape.pack(i.node, i.length, &i.symbols, card.slice());
+        if answer.is_err() {
+            card.assert_holds(&[]);
+        }
+        answer.err().map_or(0, Refusal::number)
+    });
+}
+
+/// A card or the plan's input: each number's bytes, and bytes behind them; the lengths of the lent buffers.
+#[derive(Clone, PartialEq)]
+struct Numbers {
+    numbers: Vec<Vec<u8>>,
+    behind: Vec<u8>,
+    symbols_length: usize,
+    header_length: usize,
+}
+
+impl Numbers {
+    fn bytes(&self) -> Vec<u8> {
+        [self.numbers.concat(), self.behind.clone()].concat()
+    }
+}
+
+const NOT_SHORTEST: &[u8] = &[128, 0];
+const NOT_SHORTEST_OF_THREE: &[u8] = &[129, 129, 0];
+const FOUR_GROUPS: &[u8] = &[129, 129, 129, 1];
+
+/// "Unpacking judges in this order: the five numbers' form (6), the shape, the node, the length against k × N (6), the
+/// size of the lent buffer, each symbol's form (6) then value (5) in turn, bytes left over (6)."
+const CARD: &[Cause<Numbers>] = &[
+    ("n not in shortest form", 6, |c| c.numbers[0] = NOT_SHORTEST.to_vec()),
+    ("k of four groups", 6, |c| c.numbers[1] = FOUR_GROUPS.to_vec()),
+    ("L not in shortest form", 6, |c| c.numbers[2] = NOT_SHORTEST_OF_THREE.to_vec()),
+    ("node of four groups", 6, |c| c.numbers[3] = FOUR_GROUPS.to_vec()),
+    ("length not in shortest form", 6, |c| c.numbers[4] = NOT_SHORTEST.to_vec()),
+    ("n is 2", 1, |c| c.numbers[0] = vec![2]),
+    ("n is 13", 1, |c| c.numbers[0] = vec![13]),
+    ("n is 2^21 - 1", 1, |c| c.numbers[0] = vec![255, 255, 127]),
+    ("k is 0", 1, |c| c.numbers[1] = vec![0]),
+    ("k is n - 1", 1, |c| c.numbers[1] = vec![2]),
+    ("L is 0", 1, |c| c.numbers[2] = vec![0]),
+    ("L is 16", 1, |c| c.numbers[2] = vec![16]),
+    ("node is n", 2, |c| c.numbers[3] = vec![3]),
+    ("node is 256", 2, |c| c.numbers[3] = vec![128, 2]),
+    ("length is k × N + 1", 6, |c| c.numbers[4] = vec![9]),
+    ("length is 2^21 - 1", 6, |c| c.numbers[4] = vec![255, 255, 127]),
+    ("symbols' buffer one short", 4, |c| c.symbols_length = 7),
+    ("symbols' buffer one long", 4, |c| c.symbols_length = 9),
+    ("header's buffer one short", 4, |c| c.header_length = 4),
+    ("header's buffer one long", 4, |c| c.header_length = 6),
+    ("symbol 0 not in shortest form", 6, |c| c.numbers[5] = NOT_SHORTEST.to_vec()),
+    ("symbol 1 is 257", 5, |c| c.numbers[6] = vec![129, 2]),
+    ("symbol 2 of four groups", 6, |c| c.numbers[7] = FOUR_GROUPS.to_vec()),
+    ("symbol 3 is 65536", 5, |c| c.numbers[8] = vec![128, 128, 4]),
+    ("symbol 4 is 2^21 - 1", 5, |c| c.numbers[9] = vec![255, 255, 127]),
+    ("symbol 5 not in shortest form", 6, |c| c.numbers[10] = NOT_SHORTEST_OF_THREE.to_vec()),
+    ("symbol 6 is 16384", 5, |c| c.numbers[11] = vec![128, 128, 1]),
+    ("symbol 7 cut short", 6, |c| c.numbers[12] = vec![128]),
+    ("a byte left over", 6, |c| c.behind = vec![0]),
+];
+
+fn unpack_number(card: &Numbers) -> usize {
+    let mut symbols = garbage(card.symbols_length);
+    let mut header = Lent::numbers(card.header_length);
+    let answer = archive::unpack_into(&card.bytes(), symbols.slice(), header.slice());
+    if answer.is_err() {
+        header.assert_holds(&[]);
+    }
+    judged(answer, [symbols])
+}
+
+/// Document 01's card for node 1 of its first archive.
+fn sample_card() -> Numbers {
+    let front = [3, 1, 1, 1, 2].map(|number| vec![number]);
+    let symbols = [vec![253, 1], vec![247, 1]].into_iter().chain(vec![vec![0]; 6]);
+    let numbers = front.into_iter().chain(symbols).collect();
+    Numbers { numbers, behind: vec![], symbols_length: 8, header_length: 5 }
+}
+
+#[test]
+fn unpack() {
+    try_causes(sample_card(), CARD, unpack_number);
+}
+
+#[test]
+fn every_cut_card_is_refused() {
+    let whole = sample_card().bytes();
+    for length in 0..whole.len() {
+        let cut = Numbers { numbers: vec![whole[..length].to_vec()], ..sample_card() };
+        assert_eq!(unpack_number(&cut), 6, "cut to {length} bytes");
+    }
+}
+
+/// Judged in turn: "the form of the first four numbers (6), the shape (1), h outside 1 to n−k−1 (2), the form of the
+/// lists (6), input left over (6), the lists (2), the layers (3)."
+const PLAN: &[Cause<Numbers>] = &[
+    ("n not in shortest form", 6, |p| p.numbers[0] = NOT_SHORTEST.to_vec()),
+    ("k of four groups", 6, |p| p.numbers[1] = FOUR_GROUPS.to_vec()),
+    ("L not in shortest form", 6, |p| p.numbers[2] = NOT_SHORTEST_OF_THREE.to_vec()),
+    ("h of four groups", 6, |p| p.numbers[3] = FOUR_GROUPS.to_vec()),
+    ("n is 2", 1, |p| p.numbers[0] = vec![2]),
+    ("n is 13", 1, |p| p.numbers[0] = vec![13]),
+    ("n is 2^21 - 1", 1, |p| p.numbers[0] = vec![255, 255, 127]),
+    ("k is 0", 1, |p| p.numbers[1] = vec![0]),
+    ("k is n - 1", 1, |p| p.numbers[1] = vec![5]),
+    ("L is 0", 1, |p| p.numbers[2] = vec![0]),
+    ("L is 16", 1, |p| p.numbers[2] = vec![16]),
+    ("h is 0", 2, |p| p.numbers[3] = vec![0]),
+    ("h is n - k", 2, |p| p.numbers[3] = vec![4]),
+    ("h is 2^21 - 1", 2, |p| p.numbers[3] = vec![255, 255, 127]),
+    ("a dead node not in shortest form", 6, |p| p.numbers[4] = NOT_SHORTEST.to_vec()),
+    ("a helper of four groups", 6, |p| p.numbers[7] = FOUR_GROUPS.to_vec()),
+    ("the last helper cut short", 6, |p| p.numbers[8] = vec![128]),
+    ("a byte left over", 6, |p| p.behind = vec![0]),
+    ("dead falling", 2, |p| (p.numbers[4], p.numbers[5]) = (vec![4], vec![1])),
+    ("dead twice", 2, |p| p.numbers[5] = vec![1]),
+    ("node n dead", 2, |p| p.numbers[5] = vec![6]),
+    ("node 260 dead", 2, |p| p.numbers[5] = vec![132, 2]),
+    ("helpers falling", 2, |p| (p.numbers[7], p.numbers[8]) = (vec![5], vec![2])),
+    ("helper twice", 2, |p| p.numbers[7] = vec![0]),
+    ("node n helps", 2, |p| p.numbers[8] = vec![6]),
+    ("the dead node 1 helps", 2, |p| p.numbers[7] = vec![1]),
+    ("L is 1", 3, |p| p.numbers[2] = vec![1]),
+    ("L is 4", 3, |p| p.numbers[2] = vec![4]),
+];
+
+/// n = 6, k = 2, L = 3, nodes 1 and 4 dead, helpers 0, 2 and 5.
+fn accepted_plan() -> Numbers {
+    let numbers = [6, 2, 3, 2, 1, 4, 0, 2, 5].map(|number| vec![number]).to_vec();
+    Numbers { numbers, behind: vec![], symbols_length: 0, header_length: 0 }
+}
+
+/// The number that is the plan's only line; 0 where there are more.
+fn plan_number(input: &Numbers) -> usize {
+    let text = String::from_utf8(archive::plan_text(&input.bytes())).unwrap();
+    match text.lines().collect::<Vec<_>>()[..] {
+        [line] => line.parse().unwrap(),
+        _ => 0,
+    }
+}
+
+#[test]
+fn plan() {
+    try_causes(accepted_plan(), PLAN, plan_number);
+}
+
+#[test]
+fn every_cut_plan_is_refused() {
+    let whole = accepted_plan().bytes();
+    for length in 0..whole.len() {
+        let cut = Numbers { numbers: vec![whole[..length].to_vec()], ..accepted_plan() };
+        assert_eq!(plan_number(&cut), 6, "cut to {length} bytes");
+    }
+}
+
+#[test]
+fn a_short_text_buffer_is_not_touched() {
+    for length in [0, 1, archive::PLAN_TEXT - 1] {
+        let mut text = Lent::bytes(&mut Random::new(1), length);
+        assert_eq!(archive::plan(&accepted_plan().bytes(), text.slice()), None);
+        text.assert_holds(&[]);
+    }
+}

@@ -1,0 +1,232 @@
+//! What the wrapper adds to the library: no length, shape or card from safe code can do harm, and the conveniences answer
+//! as the calls they wrap.
+use archive::{
+    plan, plan_input, plan_text, unpack, unpack_into, unpack_to_vec, Checked, Header, Refusal, Shape, PLAN_TEXT,
+};
+
+/// Document 01's first archive: n = 3, k = 1, L = 1, bytes 3 6.
+const SHAPE: Shape = Shape { nodes: 3, data: 1, layers: 1 };
+/// Its card for node 1.
+const CARD: [u8; 15] = [3, 1, 1, 1, 2, 253, 1, 247, 1, 0, 0, 0, 0, 0, 0];
+const NODE_1: [u16; 8] = [253, 247, 0, 0, 0, 0, 0, 0];
+
+/// Numbers at and far beyond every range.
+const NUMBERS: [usize; 12] = [0, 1, 2, 3, 12, 13, 15, 16, 63, 64, usize::MAX / 2 + 1, usize::MAX];
+
+fn hostile_shapes() -> impl Iterator<Item = Shape> {
+    NUMBERS.into_iter().flat_map(|nodes| {
+        NUMBERS.into_iter().flat_map(move |data| NUMBERS.into_iter().map(move |layers| Shape { nodes, data, layers }))
+    })
+}
+
+/// The ranges of document 01.
+fn within_ranges(shape: Shape) -> bool {
+    (3..=12).contains(&shape.nodes) && (1..=shape.nodes - 2).contains(&shape.data) && (1..=15).contains(&shape.layers)
+}
+
+#[test]
+fn a_header_buffer_has_five_numbers() {
+    for length in 0..12 {
+        let mut symbols = [9; 8];
+        let mut header = vec![7; length];
+        let answer = unpack_into(&CARD, &mut symbols, &mut header);
+        if length == 5 {
+            assert_eq!(answer, Ok(()));
+            assert_eq!((header, symbols), (vec![3, 1, 1, 1, 2], NODE_1));
+        } else {
+            assert_eq!(answer, Err(Refusal::WrongLength), "length {length}");
+            assert_eq!((header, symbols), (vec![7; length], [9; 8]));
+        }
+    }
+}
+
+#[test]
+fn a_bad_header_buffer_comes_after_a_bad_header_and_before_a_bad_symbol() {
+    let answers = |card: &[u8]| unpack_into(card, &mut [0; 8], &mut [0; 4]);
+    assert_eq!(answers(&[3, 1, 1, 1]), Err(Refusal::Malformed));
+    assert_eq!(answers(&[2, 1, 1, 1, 2]), Err(Refusal::BadShape));
+    assert_eq!(answers(&[3, 1, 1, 3, 2]), Err(Refusal::BadNodes));
+    assert_eq!(answers(&[3, 1, 1, 1, 9]), Err(Refusal::Malformed));
+    assert_eq!(answers(&[3, 1, 1, 1, 2, 129, 2]), Err(Refusal::WrongLength));
+}
+
+#[test]
+fn empty_buffers_are_refused_for_their_length() {
+    let wrong = Err(Refusal::WrongLength);
+    assert_eq!(SHAPE.write(&[], &mut []), wrong);
+    assert_eq!(SHAPE.check(&[]), Err(Refusal::WrongLength));
+    assert_eq!(SHAPE.restore(&[0], &[], &mut []), wrong);
+    assert_eq!(SHAPE.open(&[0], &[], 0, &mut []), wrong);
+    assert_eq!(SHAPE.helper_message(&[0], &[1, 2], 1, 0, &[], &mut []), wrong);
+    assert_eq!(SHAPE.first_step(&[0], &[1, 2], 0, &[], &mut [], &mut []), wrong);
+    assert_eq!(SHAPE.second_step(&[0], &[1, 2], 0, &[], &[], &mut []), wrong);
+    assert_eq!(SHAPE.repair(&[0], &[1, 2], &mut [], &mut []), wrong);
+    assert_eq!(SHAPE.pack(0, 0, &[], &mut []), Err(Refusal::WrongLength));
+    assert_eq!(unpack(&CARD, &mut []), Err(Refusal::WrongLength));
+    assert_eq!(unpack(&[], &mut []), Err(Refusal::Malformed));
+    assert_eq!(plan(&[], &mut []), None);
+    assert_eq!(plan_text(&[]), b"6\n");
+}
+
+#[test]
+fn empty_lists_are_refused() {
+    let nodes = SHAPE.write_to_nodes(&[3, 6]).unwrap();
+    assert_eq!(SHAPE.restore_nodes(&[], &[]), Err(Refusal::BadNodes));
+    assert_eq!(SHAPE.open_to_vec(&[], &[], 0), Err(Refusal::BadNodes));
+    assert_eq!(SHAPE.repair_nodes(&[], &[1, 2], &mut nodes.clone()), Err(Refusal::BadNodes));
+    assert_eq!(SHAPE.repair_nodes(&[0], &[], &mut nodes.clone()), Err(Refusal::BadNodes));
+}
+
+#[test]
+fn an_empty_transcript_is_written_as_zeros_and_opened() {
+    let nodes = SHAPE.write_to_nodes(&[]).unwrap();
+    assert_eq!(nodes, [0; 24]);
+    assert_eq!(SHAPE.open_to_vec(&[2], &nodes[16..], 0), Ok(Vec::new()));
+}
+
+#[test]
+fn every_call_judges_every_shape() {
+    for shape in hostile_shapes() {
+        let good = within_ranges(shape);
+        let judged = |answer: Result<(), Refusal>| assert_eq!(answer == Err(Refusal::BadShape), !good, "{shape:?}");
+        judged(Shape::new(shape.nodes, shape.data, shape.layers).map(drop));
+        judged(shape.write(&[1], &mut [0; 3]));
+        judged(shape.check(&[0; 3]).map(drop));
+        judged(shape.restore(&[0], &[0; 3], &mut [0; 3]));
+        judged(shape.open(&[0], &[0; 3], 1, &mut [0; 1]));
+        judged(shape.helper_message(&[0], &[1, 2], 1, 0, &[0; 3], &mut [0; 3]));
+        judged(shape.first_step(&[0], &[1, 2], 0, &[0; 3], &mut [0; 3], &mut [0; 3]));
+        judged(shape.second_step(&[0], &[1, 2], 0, &[0; 3], &[0; 3], &mut [0; 3]));
+        judged(shape.repair(&[0], &[1, 2], &mut [0; 3], &mut [0; 3]));
+        judged(shape.pack(0, 0, &[0; 3], &mut [0; 3]).map(drop));
+    }
+}
+
+#[test]
+fn conveniences_and_sizes_judge_every_shape() {
+    for shape in hostile_shapes() {
+        let good = within_ranges(shape);
+        let judged = |answer: Result<(), Refusal>| assert_eq!(answer == Err(Refusal::BadShape), !good, "{shape:?}");
+        judged(shape.node_symbols().map(drop));
+        judged(shape.archive_symbols().map(drop));
+        judged(shape.capacity().map(drop));
+        judged(shape.card_room().map(drop));
+        judged(shape.write_to_nodes(&[]).map(drop));
+        judged(shape.restore_nodes(&[0], &[0; 3]).map(drop));
+        judged(shape.open_to_vec(&[0], &[0; 3], usize::MAX).map(drop));
+        judged(shape.repair_nodes(&[0], &[1, 2], &mut [0; 3]).map(drop));
+        judged(shape.pack_to_vec(usize::MAX, usize::MAX, &[0; 3]).map(drop));
+        for dead_count in NUMBERS {
+            judged(shape.batch_layers(dead_count).map(drop));
+            judged(shape.message_symbols(dead_count).map(drop));
+            judged(shape.wire_symbols(dead_count).map(drop));
+        }
+        assert!(plan_text(&plan_input(shape, &[0], &[1, 2])).ends_with(b"\n"));
+    }
+}
+
+#[test]
+fn a_length_above_the_capacity_takes_no_memory() {
+    let nodes = SHAPE.write_to_nodes(&[3, 6]).unwrap();
+    assert_eq!(SHAPE.open_to_vec(&[0], &nodes[..8], usize::MAX), Err(Refusal::WrongLength));
+    assert_eq!(SHAPE.open_to_vec(&[3], &nodes[..8], usize::MAX), Err(Refusal::BadNodes));
+    assert_eq!(SHAPE.open_to_vec(&[0], &nodes[..8], 9), Err(Refusal::WrongLength));
+}
+
+#[test]
+fn sizes_are_those_of_document_01() {
+    let shape = Shape::new(12, 6, 15).unwrap();
+    assert_eq!(shape.node_symbols(), Ok(61_440));
+    assert_eq!(shape.archive_symbols(), Ok(737_280));
+    assert_eq!(shape.capacity(), Ok(368_640));
+    assert_eq!(shape.card_room(), Ok(122_895));
+    assert_eq!(shape.message_symbols(4), Ok(12_288));
+    assert_eq!(shape.wire_symbols(4), Ok(491_520));
+    assert_eq!(shape.message_symbols(6), Err(Refusal::BadNodes));
+    let shape = Shape { layers: 1, ..shape };
+    assert_eq!(shape.message_symbols(2), Err(Refusal::PartBatch));
+    assert_eq!(shape.message_symbols(3), Ok(1024));
+}
+
+#[test]
+fn the_unmet_equation_is_taken_apart() {
+    let shape = Shape::new(5, 2, 3).unwrap();
+    for (place, layer, a) in [(0, 0, 0), (31, 0, 31), (32, 1, 0), (95, 2, 31)] {
+        let mut nodes = shape.write_to_nodes(b"a record").unwrap();
+        nodes[4 * 96 + place] = (nodes[4 * 96 + place] + 1) % 257;
+        assert_eq!(shape.check(&nodes), Ok(Checked::Unmet { layer, a, t: 0 }));
+    }
+    // Two symbols that change by opposite amounts keep the sum, the equation of t = 0.
+    let mut nodes = vec![0; 5 * 96];
+    nodes[40] = 1;
+    nodes[96 + 40] = 256;
+    assert_eq!(shape.check(&nodes), Ok(Checked::Unmet { layer: 1, a: 8, t: 1 }));
+}
+
+#[test]
+fn a_card_is_unpacked_as_it_was_packed() {
+    assert_eq!(SHAPE.pack_to_vec(1, 2, &NODE_1), Ok(CARD.to_vec()));
+    let header = Header { shape: SHAPE, node: 1, length: 2 };
+    assert_eq!(unpack_to_vec(&CARD), Ok((header, NODE_1.to_vec())));
+    let largest = Shape::new(12, 10, 15).unwrap();
+    let symbols = vec![256; 61_440];
+    let card = largest.pack_to_vec(11, 614_400, &symbols).unwrap();
+    assert_eq!(unpack_to_vec(&card), Ok((Header { shape: largest, node: 11, length: 614_400 }, symbols)));
+}
+
+#[test]
+fn cut_lengthened_and_huge_cards_are_refused() {
+    for cut in 0..CARD.len() {
+        assert_eq!(unpack_to_vec(&CARD[..cut]), Err(Refusal::Malformed), "cut at {cut}");
+    }
+    assert_eq!(unpack_to_vec(&[&CARD[..], &[0]].concat()), Err(Refusal::Malformed));
+    // Headers that announce the most symbols, or more than there can be, with none behind them.
+    assert_eq!(unpack_to_vec(&[12, 10, 15, 11, 0]), Err(Refusal::Malformed));
+    assert_eq!(unpack_to_vec(&[127, 1, 127, 0, 0]), Err(Refusal::BadShape));
+    assert_eq!(unpack_to_vec(&[255, 255, 127, 1, 1, 0, 0]), Err(Refusal::BadShape));
+    assert_eq!(unpack_to_vec(&[255, 255, 255, 127, 1, 1, 0, 0]), Err(Refusal::Malformed));
+    // A number in more groups than it needs is malformed, also where its value would do.
+    assert_eq!(unpack_to_vec(&[131, 0, 1, 1, 1, 2, 253, 1]), Err(Refusal::Malformed));
+}
+
+#[test]
+fn every_byte_of_a_card_may_be_anything() {
+    for place in 0..CARD.len() {
+        for byte in 0..=255 {
+            let mut card = CARD;
+            card[place] = byte;
+            if let Ok((header, symbols)) = unpack_to_vec(&card) {
+                let packed = header.shape.pack_to_vec(header.node, header.length, &symbols);
+                assert_eq!(packed, Ok(card.to_vec()));
+            }
+        }
+    }
+}
+
+#[test]
+fn a_plan_needs_its_room_and_no_more_is_touched() {
+    let input = [4, 1, 3, 2, 0, 1, 2, 3];
+    let printed = b"4 1 3 2\n2 0 16\n3 0 16\n2 1 16\n3 1 16\n1 0 16\n0 1 16\n96\n";
+    for length in [0, 1, 53, PLAN_TEXT - 1] {
+        let mut text = vec![b'.'; length];
+        assert_eq!(plan(&input, &mut text), None);
+        assert_eq!(text, vec![b'.'; length]);
+    }
+    for length in [PLAN_TEXT, PLAN_TEXT + 1, 5000] {
+        let mut text = vec![b'.'; length];
+        assert_eq!(plan(&input, &mut text), Some(printed.len()));
+        assert_eq!(text[..printed.len()], *printed);
+        assert!(text[printed.len()..].iter().all(|&byte| byte == b'.'));
+    }
+}
+
+#[test]
+fn refusals_have_their_numbers_and_one_sentence() {
+    for (place, cause) in Refusal::ALL.into_iter().enumerate() {
+        assert_eq!(cause.number(), place + 1);
+        assert_eq!(Refusal::from_number(place + 1), Some(cause));
+        assert!(!cause.to_string().is_empty() && !cause.to_string().contains('\n'));
+    }
+    assert_eq!(Refusal::from_number(0), None);
+    assert_eq!(Refusal::from_number(9), None);
+}
