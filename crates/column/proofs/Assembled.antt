@@ -36,7 +36,7 @@ differences-small q x (suc i) points h = mod-lt _ (omega arith)
 module _ (q : ℕ) (prime : Prime q) (xs : List ℕ) (apart : Points q xs) (r : ℕ) (long : length xs ≡ r) (few : r ≤ mostEntries)
     (powers : List (List ℕ)) (v : Vandermonde q xs powers) (right points side : List ℕ) (triangle : List (List ℕ))
     (points-are : (j : ℕ) → j < r → element points j ≡ cell powers j 1)
-    (triangle-is : (j i : ℕ) → j < r → i < r → cell triangle j i ≡ differences q (element points) i (element points j))
+    (triangle-is : (i j : ℕ) → i < r → j < r → cell triangle i j ≡ differences q (element points) i (element points j))
     (side-is : (i : ℕ) → i < r → element side i ≡ eliminated q (element points) i (element right) 0)
     (s : Solution) (w : Substituted q r triangle side s) where
   -- the first powers are the points, where there is more than one
@@ -48,9 +48,9 @@ module _ (q : ℕ) (prime : Prime q) (xs : List ℕ) (apart : Points q xs) (r : 
   point-is : (i : ℕ) → i < r → (l : ℕ) → l < i → element points l ≡ element xs l
   point-is i h l k = point-of (omega arith) l (omega arith)
 
-  corner-is : (j i : ℕ) → j < r → i < r → cell triangle j i ≡ eliminated q (element xs) i (powerOf q (element xs j)) 0
-  corner-is j i h k =
-      triangle-is j i h k ∙ same i k
+  corner-is : (i j : ℕ) → i < r → j < r → cell triangle i j ≡ eliminated q (element xs) i (powerOf q (element xs j)) 0
+  corner-is i j k h =
+      triangle-is i j k h ∙ same i k
       ∙ corner-product q prime xs apart i (element xs j) (corner-small q (element xs j) i (element xs) (pos q prime)) (differences-small q (element xs j) i (element xs) (prime .big))
     where
       same : (i : ℕ) → i < r → differences q (element points) i (element points j) ≡ differences q (element xs) i (element xs j)
@@ -94,7 +94,7 @@ module _ (q : ℕ) (prime : Prime q) (xs : List ℕ) (apart : Points q xs) (r : 
         (λ i h. let k : i < r = omega arith in
         ap (residue q prime)
         (ap (λ n. sum n (λ d. eliminated q (element xs) i (powerOf q (element xs (i + d))) 0 * element (take r (s .values)) (i + d))) (ap (λ n. n - i) long)
-        ∙ sum-ext (r - i) _ _ (λ d l. ap₂ _*_ (sym (corner-is (i + d) i (omega arith) k)) (taken (i + d) (omega arith))))
+        ∙ sum-ext (r - i) _ _ (λ d l. ap₂ _*_ (sym (corner-is i (i + d) k (omega arith))) (taken (i + d) (omega arith))))
         ∙ res-of-mod q prime _ _ (meets i k .met)
         ∙ ap (residue q prime) (right-is i k)),
   )

@@ -35,6 +35,10 @@ eliminated-ext q p p′ f g (suc i) t hp hf =
     (eliminated-ext q p p′ f g i t (λ l h. hp l (omega arith)) (λ s h. hf s (omega arith)))
     (eliminated-ext q p p′ f g i (t + 1) (λ l h. hp l (omega arith)) (λ s h. hf s (omega arith)))
 
+pub differences-none-at : (q : ℕ) (points : ℕ → ℕ) (x : ℕ) → 1 ≡ numberDifferences q points 0 x
+unfolding numberDifferences
+differences-none-at q points x = refl
+
 pub differences-next : (q : ℕ) (points : ℕ → ℕ) (i x p d : ℕ) → p ≡ numberDifferences q points i x → d ≡ minus q x (points i)
     → (p * d) % q ≡ numberDifferences q points (i + 1) x
 unfolding numberDifferences

@@ -15,7 +15,7 @@ use Rattle.field.proofs.Ring.{Ring, ring}
 use Rattle.field.proofs.Residues.{Residue, res, val-res, res-add, res-mul, res-mod, one-is}
 use Rattle.field.proofs.Fields.{pos, R}
 use Rattle.field.proofs.Bridge.{r as residue, minus-is}
-use Rattle.column.specs.Solving.{element, cell, term, Meets}
+use Rattle.column.specs.Solving.{element, cell, rowOf, term, Meets}
 
 module _ (q : ℕ) (prime : Prime q) where
   open Ring (R q prime) using (𝟙, _⊕_, _⊖_, _⊗_)
@@ -60,23 +60,23 @@ module _ (q : ℕ) (prime : Prime q) where
 -- the values met the equations from i + 1 on; with v stored at i they meet those from i on
 module _ (q r : ℕ) (triangle : List (List ℕ)) (right values : List ℕ) (i v : ℕ) (within : i < length values) (below : i < r)
     (later : (l : ℕ) → i + 1 ≤ l → l < r → Meets q r triangle right values l) (low : v < q)
-    (here : (cell triangle i i * v + sum (r - i - 1) (term triangle values i (i + 1))) % q ≡ element right i % q) where
+    (here : (cell triangle i i * v + sum (r - i - 1) (term (rowOf triangle i) values (i + 1))) % q ≡ element right i % q) where
   others : (j : ℕ) → j ≢ i → element (set values i v) j ≡ element values j
   others j d = getD-set-other values i j v 0 d
 
   same : element (set values i v) i ≡ v
   same = getD-set-same values i v 0 within
 
-  first : sum (r - i) (term triangle (set values i v) i i) ≡ cell triangle i i * v + sum (r - i - 1) (term triangle values i (i + 1))
+  first : sum (r - i) (term (rowOf triangle i) (set values i v) i) ≡ cell triangle i i * v + sum (r - i - 1) (term (rowOf triangle i) values (i + 1))
   unfolding term
   first =
-      ap (λ n. sum n (term triangle (set values i v) i i)) (let e : r - i ≡ suc (r - i - 1) = omega arith in e)
-      ∙ sum-first (r - i - 1) (term triangle (set values i v) i i)
+      ap (λ n. sum n (term (rowOf triangle i) (set values i v) i)) (let e : r - i ≡ suc (r - i - 1) = omega arith in e)
+      ∙ sum-first (r - i - 1) (term (rowOf triangle i) (set values i v) i)
       ∙ ap₂ _+_
-      (ap (λ k. cell triangle k i * element (set values i v) k) (add-zero i) ∙ ap (λ x. cell triangle i i * x) same)
+      (ap (λ k. cell triangle i k * element (set values i v) k) (add-zero i) ∙ ap (λ x. cell triangle i i * x) same)
       (sum-ext (r - i - 1) _ _ (λ d l.
-      ap (λ k. cell triangle k i * element (set values i v) k) (let e : i + suc d ≡ i + 1 + d = omega arith in e)
-      ∙ ap (λ x. cell triangle (i + 1 + d) i * x) (others (i + 1 + d) (λ e. omega arith))))
+      ap (λ k. cell triangle i k * element (set values i v) k) (let e : i + suc d ≡ i + 1 + d = omega arith in e)
+      ∙ ap (λ x. cell triangle i (i + 1 + d) * x) (others (i + 1 + d) (λ e. omega arith))))
 
   pub value-more : (l : ℕ) → i ≤ l → l < r → Meets q r triangle right (set values i v) l
   unfolding term
@@ -89,6 +89,6 @@ module _ (q r : ℕ) (triangle : List (List ℕ)) (right values : List ℕ) (i v
           record {
             small = rw (others l d) (w .small);
             met =
-                ap (λ x. x % q) (sum-ext (r - l) _ _ (λ s z. ap (λ x. cell triangle (l + s) l * x) (others (l + s) (λ e. omega arith))))
+                ap (λ x. x % q) (sum-ext (r - l) _ _ (λ s z. ap (λ x. cell triangle l (l + s) * x) (others (l + s) (λ e. omega arith))))
                 ∙ w .met;
           }

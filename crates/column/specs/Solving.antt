@@ -74,31 +74,39 @@ unfoldable pub differences : ℕ → (ℕ → ℕ) → ℕ → ℕ → ℕ
 differences q points zero x = 1
 differences q points (suc i) x = (differences q points i x * minus q x (points i)) % q
 
--- the term of the d-th value from `start` on, in equation t
-unfoldable pub term : List (List ℕ) → List ℕ → ℕ → ℕ → ℕ → ℕ
-term rows values t start d = cell rows (start + d) t * element values (start + d)
+-- the term of the d-th value from `start` on, in an equation with these factors
+unfoldable pub term : List ℕ → List ℕ → ℕ → ℕ → ℕ
+term row values start d = element row (start + d) * element values (start + d)
 
--- the product of the first i pivots, which stand on the diagonal
-unfoldable pub product : ℕ → List (List ℕ) → ℕ → ℕ
-product q triangle zero = 1
-product q triangle (suc i) = (product q triangle i * cell triangle i i) % q
+-- the factors of equation i
+abbrev pub rowOf : List (List ℕ) → ℕ → List ℕ
+rowOf rows i = getD rows i []
+
+-- the product of the first i pivots
+unfoldable pub product : ℕ → (ℕ → ℕ) → ℕ → ℕ
+product q pivots zero = 1
+product q pivots (suc i) = (product q pivots i * pivots i) % q
 
 -- a prime modulus, and no pivot that is 0
-pub record Pivots (q r : ℕ) (triangle : List (List ℕ)) : Type 0 where
+pub record Pivots (q r : ℕ) (pivots : ℕ → ℕ) : Type 0 where
   pub prime : Prime q
-  pub small : (i : ℕ) → i < r → cell triangle i i < q
-  pub nonzero : (i : ℕ) → i < r → cell triangle i i ≢ 0
+  pub small : (i : ℕ) → i < r → pivots i < q
+  pub nonzero : (i : ℕ) → i < r → pivots i ≢ 0
+
+-- the pivots of a triangle stand on its diagonal
+abbrev pub pivot : List (List ℕ) → ℕ → ℕ
+pivot triangle i = cell triangle i i
 
 -- value i is below the modulus, and meets equation i of those of which equation i has the unknowns from i on
 pub record Meets (q r : ℕ) (triangle : List (List ℕ)) (right values : List ℕ) (i : ℕ) : Type 0 where
   pub small : element values i < q
-  pub met : sum (r - i) (term triangle values i i) % q ≡ element right i % q
+  pub met : sum (r - i) (term (rowOf triangle i) values i) % q ≡ element right i % q
 
 -- back substitution in such equations
 pub record Substituted (q r : ℕ) (triangle : List (List ℕ)) (right : List ℕ) (s : Solution) : Type 0 where
   pub long : length (s .values) ≡ mostEntries
   pub stopped : s .outcome ≡ ZeroDivisor → (i : ℕ) × (i < r) × (cell triangle i i ≡ 0)
-  pub meets : Pivots q r triangle → s .outcome ≡ Solved → (i : ℕ) → i < r → Meets q r triangle right (s .values) i
+  pub meets : Pivots q r (pivot triangle) → s .outcome ≡ Solved → (i : ℕ) → i < r → Meets q r triangle right (s .values) i
 
 -- the sum of an equation's terms, and the terms of the next equation
 pub record Advanced (q : ℕ) (points before after : List ℕ) (total : ℕ) : Type 0 where

@@ -3,19 +3,19 @@ use mathlib.Core.Path.{_≡_, refl, sym, ap, _∙_}
 use Prim.Native.Nat.{ℕ, _+_, _-_, _*_, _%_, _≤_, _<_}
 use native.Mathlib.Omega.{arith}
 use lib.ListN.{length, length-set}
-use Rattle.column.specs.Solving.{mostEntries, element, cell, product, Pivots}
+use Rattle.column.specs.Solving.{mostEntries, element, product, Pivots}
 use Rattle.column.proofs.Pivots.{product-small, product-nonzero, inverts-pivot, inverts-rest, stored-down}
 use borrow.Author.Needs.{needs}
 use Rattle.column.proofs.inverses.Statement.{statement}
 use Rattle.column.proofs.inverses.Tie as tie
 
 abbrev Inv-loop : tie.InvT-loop
-Inv-loop q r triangle before out₀ rest₀ i₀ out rest i =
+Inv-loop q r pivots before out₀ rest₀ i₀ out rest i =
     (i ≤ r) × (length out ≡ mostEntries)
-    × (Pivots q r triangle → ((product q triangle i * rest) % q ≡ 1) × ((k : ℕ) → i ≤ k → k < r → (cell triangle k k * element out k) % q ≡ 1))
+    × (Pivots q r (element pivots) → ((product q (element pivots) i * rest) % q ≡ 1) × ((k : ℕ) → i ≤ k → k < r → (element pivots k * element out k) % q ≡ 1))
 
 abbrev μ-loop : tie.MeasureT-loop
-μ-loop q r triangle before out₀ rest₀ i₀ out rest i = i
+μ-loop q r pivots before out₀ rest₀ i₀ out rest i = i
 
 loop-holds : tie.Need-loop-holds Inv-loop μ-loop
 loop-holds c =
@@ -26,25 +26,25 @@ loop-holds c =
       λ w. (
         ap (λ x. (x * c .inverse .result) % s .q) (sym all)
             ∙ c .inverse .ensures .one (w .prime)
-            (omega (arith, all, product-nonzero (s .q) (s .r) (s .t3) w (s .r) (omega arith)))
-            (rw all (product-small (s .q) (s .r) (s .t3) w (s .r))),
+            (omega (arith, all, product-nonzero (s .q) (s .r) (element (s .t3)) w (s .r) (omega arith)))
+            (rw all (product-small (s .q) (s .r) (element (s .t3)) w (s .r))),
         λ k h l. absurd (omega arith),
       ),
     )
 
 loop-again : tie.Need-loop-again Inv-loop μ-loop
 loop-again c =
-    let l = c .before .before .before .before .loop in
-    let s = c .before .before .before .before .before .before .before .args in
+    let l = c .before .before .before .loop in
+    let s = c .before .before .before .before .before .before .args in
     let i = l .i - 1 in
     let next : l .i ≡ i + 1 = omega arith in (
       search needs,
       simp length-set (l .inv .1),
       λ w.
-          let one : (product (s .q) (s .t3) (i + 1) * l .rest) % s .q ≡ 1 = rw (sym next) (l .inv .2 w .0) in (
-            inverts-rest (s .q) (s .t3) i (l .rest) one _ (c .multiply2 .ensures .1),
-            stored-down (λ k x. (cell (s .t3) k k * x) % s .q ≡ 1) (l .out) i (s .r) _ (omega arith) (λ k h. l .inv .2 w .1 k (omega arith))
-                (inverts-pivot (s .q) (s .t3) i (l .rest) one _ _ (c .before .before .before .before .before .before .products .ensures .1 i (omega arith)) (c .before .before .multiply .ensures .1)),
+          let one : (product (s .q) (element (s .t3)) (i + 1) * l .rest) % s .q ≡ 1 = rw (sym next) (l .inv .2 w .0) in (
+            inverts-rest (s .q) (element (s .t3)) i (l .rest) one _ (c .multiply2 .ensures .1),
+            stored-down (λ k x. (element (s .t3) k * x) % s .q ≡ 1) (l .out) i (s .r) _ (omega arith) (λ k h. l .inv .2 w .1 k (omega arith))
+                (inverts-pivot (s .q) (element (s .t3)) i (l .rest) one _ _ (c .before .before .before .before .before .products .ensures .1 i (omega arith)) (c .before .multiply .ensures .1)),
           ),
     )
 
@@ -66,8 +66,6 @@ inverses-spec =
     (λ c. search needs)
     (λ c. search needs)
     (λ c κs. search needs)
-    (λ c. search needs)
-    (λ c. search needs)
     (λ c. search needs)
     (λ c. search needs)
     (λ c. search needs)

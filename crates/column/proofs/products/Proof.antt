@@ -12,28 +12,28 @@ use Rattle.column.proofs.products.Statement.{statement}
 use Rattle.column.proofs.products.Tie as tie
 
 abbrev Inv-loop : tie.InvT-loop
-Inv-loop q r triangle out₀ i₀ out i =
-    (i ≤ r) × (length out ≡ mostEntries + 1) × ((k : ℕ) → k < i + 1 → element out k ≡ product q triangle k)
+Inv-loop q r pivots out₀ i₀ out i =
+    (i ≤ r) × (length out ≡ mostEntries + 1) × ((k : ℕ) → k < i + 1 → element out k ≡ product q (element pivots) k)
 
 abbrev μ-loop : tie.MeasureT-loop
-μ-loop q r triangle out₀ i₀ out i = r - i
+μ-loop q r pivots out₀ i₀ out i = r - i
 
-at-none : (q : ℕ) (triangle : List (List ℕ)) (k : ℕ) → k < 1 → element (replicate (mostEntries + 1) 1) k ≡ product q triangle k
+at-none : (q : ℕ) (pivots : ℕ → ℕ) (k : ℕ) → k < 1 → element (replicate (mostEntries + 1) 1) k ≡ product q pivots k
 unfolding product
-at-none q triangle zero h = refl
-at-none q triangle (suc k) h = absurd (omega arith)
+at-none q pivots zero h = refl
+at-none q pivots (suc k) h = absurd (omega arith)
 
 loop-holds : tie.Need-loop-holds Inv-loop μ-loop
-loop-holds c = (search needs, search needs, at-none (c .args .q) (c .args .t3))
+loop-holds c = (search needs, search needs, at-none (c .args .q) (element (c .args .t3)))
 
 loop-again : tie.Need-loop-again Inv-loop μ-loop
 loop-again c =
-    let l = c .before .before .before .loop in
-    let s = c .before .before .before .before .args in (
+    let l = c .before .before .loop in
+    let s = c .before .before .before .args in (
       search needs,
       simp length-set (l .inv .1),
-      stored-more (λ k x. x ≡ product (s .q) (s .t3) k) (l .out) (l .i + 1) _ 0 (omega arith) (l .inv .2)
-          (product-more (s .q) (s .t3) (l .i) _ _ (l .inv .2 (l .i) (omega arith)) (c .multiply .ensures .1)),
+      stored-more (λ k x. x ≡ product (s .q) (element (s .t3)) k) (l .out) (l .i + 1) _ 0 (omega arith) (l .inv .2)
+          (product-more (s .q) (element (s .t3)) (l .i) _ _ (l .inv .2 (l .i) (omega arith)) (c .multiply .ensures .1)),
     )
 
 returns : tie.Need-returns Inv-loop μ-loop
@@ -46,8 +46,6 @@ products-spec =
     Inv-loop
     μ-loop
     loop-holds
-    (λ c. search needs)
-    (λ c. search needs)
     (λ c. search needs)
     (λ c. search needs)
     (λ c. search needs)

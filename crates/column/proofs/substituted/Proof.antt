@@ -1,12 +1,13 @@
 -- `column::substituted` meets its contract. Assumes nothing.
 use mathlib.Core.Path.{_≡_, sym, ap, _∙_}
 use mathlib.Core.List.{List}
-use Prim.Native.Nat.{ℕ, _-_, _≤_, _<_}
+use Prim.Native.Nat.{ℕ, _-_, _*_, _%_, _≤_, _<_}
 use native.Mathlib.Omega.{arith}
 use lib.ListN.{length, length-set}
 use Rattle.field.specs.Residues.{minus}
-use Rattle.column.specs.Solving.{mostEntries, element, Meets, Pivots}
+use Rattle.column.specs.Solving.{mostEntries, element, pivot, Meets, Pivots}
 use Rattle.column.specs.declared.Outcome.the-variants.{Solved, ZeroDivisor}
+use Rattle.column.proofs.Pivots.{pivots-ext}
 use Rattle.column.proofs.Substitution.{divided-back, value-more}
 use borrow.Author.Needs.{needs}
 use Rattle.column.proofs.substituted.Statement.{statement}
@@ -16,26 +17,29 @@ never : ZeroDivisor ≡ Solved → ⊥
 never e = let z : _≡_ {A = ℕ} 0 1 = cc in omega arith
 
 abbrev Inv-loop : tie.InvT-loop
-Inv-loop q r triangle right values₀ inverted i₀ values i =
-    (i ≤ r) × (length values ≡ mostEntries) × (Pivots q r triangle → (l : ℕ) → i ≤ l → l < r → Meets q r triangle right values l)
+Inv-loop q r triangle right values₀ pivots inverted i₀ values i =
+    (i ≤ r) × (length values ≡ mostEntries) × (Pivots q r (pivot triangle) → (l : ℕ) → i ≤ l → l < r → Meets q r triangle right values l)
 
 abbrev μ-loop : tie.MeasureT-loop
-μ-loop q r triangle right values₀ inverted i₀ values i = i
+μ-loop q r triangle right values₀ pivots inverted i₀ values i = i
 
 loop-holds : tie.Need-loop-holds Inv-loop μ-loop
 loop-holds c = (search needs, search needs, λ w l h k. absurd (omega arith))
 
 returns : tie.Need-returns Inv-loop μ-loop
-returns c = record {
-  long = c .before .before .before .loop .inv .1;
-  stopped = λ e. (c .before .before .before .loop .i - 1, omega arith, c .if1 .taken);
-  meets = λ w e. absurd (never e);
-}
+returns c =
+    let l = c .before .before .loop in
+    record {
+      long = l .inv .1;
+      stopped = λ e. (l .i - 1, omega arith, sym (c .before .before .before .before .diagonal .ensures .1 (l .i - 1) (omega arith)) ∙ c .if1 .taken);
+      meets = λ w e. absurd (never e);
+    }
 
 loop-again : tie.Need-loop-again Inv-loop μ-loop
 loop-again c =
     let l = c .before .before .before .before .before .before .before .loop in
-    let s = c .before .before .before .before .before .before .before .before .before .args in (
+    let s = c .before .before .before .before .before .before .before .before .before .before .args in
+    let diagonal = c .before .before .before .before .before .before .before .before .before .diagonal .ensures .1 in (
       search needs,
       simp length-set (l .inv .1),
       λ w.
@@ -45,7 +49,8 @@ loop-again c =
           (divided-back (s .q) (w .prime) _ _ _ _ _ _
           (c .before .subtract .ensures .1 ∙ ap (minus (s .q) (element (s .t4) (l .i - 1))) (c .before .before .part-of .ensures .1))
           (c .multiply .ensures .1)
-          (c .before .before .before .before .before .before .before .before .inverses .ensures .1 w (l .i - 1) (omega arith))),
+          (ap (λ p. (p * element (c .before .before .before .before .before .before .before .before .inverses .result) (l .i - 1)) % s .q) (sym (diagonal (l .i - 1) (omega arith)))
+          ∙ c .before .before .before .before .before .before .before .before .inverses .ensures .1 (pivots-ext (s .q) (s .r) (pivot (s .t3)) _ diagonal w) (l .i - 1) (omega arith))),
     )
 
 returns-2 : tie.Need-returns-2 Inv-loop μ-loop
@@ -62,13 +67,14 @@ substituted-spec =
     Inv-loop
     μ-loop
     (λ c κs. search needs)
+    (λ c κs. search needs)
     loop-holds
     (λ c. search needs)
     (λ c. search needs)
     (λ c. search needs)
-    (λ c. search needs)
-    (λ c. search needs)
     returns
+    (λ c. search needs)
+    (λ c. search needs)
     (λ c. search needs)
     (λ c. search needs)
     (λ c. search needs)
