@@ -13,7 +13,7 @@ use Rattle.classes.specs.Classes.{node, messageSize}
 use Rattle.repair.specs.Whole as Whole
 use Rattle.repair.specs.Whole.{repaired, WholeRepair}
 use Rattle.classes.specs.Steps.{place, helperMessage, ownPairs, exchanges, contents}
-use Rattle.repair.specs.Refusals.{messageRefusal, firstStepRefusal, secondStepRefusal, wholeRefusal}
+use Rattle.judging.specs.Refusals.{messageRefusal, firstStepRefusal, secondStepRefusal, wholeRefusal}
 
 -- "A helper makes its message": the message to the new node, from the helper's N symbols
 pub record HelperMessage (s : Shape) (dead helpers : List ℕ) (helper new : ℕ) (symbols before after : List ℕ) (answer : Answer) : Type 0 where

@@ -8,8 +8,9 @@ use Rattle.shape.specs.Refusals.{answerNumber}
 use Rattle.shape.proofs.Answers.{afterwards-done}
 use Rattle.code.specs.Code.{narrow}
 use Rattle.classes.specs.Steps.{ownPairs, exchanges}
-use Rattle.repair.specs.Refusals.{firstStepRefusal}
-use Rattle.repair.proofs.Judged.{turned-back, lists-ready, FirstPassed, first-passed, first-helped}
+use Rattle.judging.specs.Refusals.{firstStepRefusal}
+use Rattle.judging.proofs.Judged.{turned-back, lists-ready, FirstPassed, first-passed}
+use Rattle.repair.proofs.Helping.{first-helped}
 use Rattle.repair.proofs.first_step.Statement.{statement}
 use Rattle.repair.proofs.first_step.Tie as tie
 

@@ -6,8 +6,8 @@ use Rattle.shape.specs.Refusals.{answerNumber}
 use Rattle.shape.proofs.Answers.{afterwards-done}
 use Rattle.code.specs.Code.{narrow}
 use Rattle.classes.specs.Steps.{helperMessage}
-use Rattle.repair.specs.Refusals.{messageRefusal}
-use Rattle.repair.proofs.Judged.{turned-back, lists-ready, MessagePassed, message-passed}
+use Rattle.judging.specs.Refusals.{messageRefusal}
+use Rattle.judging.proofs.Judged.{turned-back, lists-ready, MessagePassed, message-passed}
 use Rattle.repair.proofs.helper_message.Statement.{statement}
 use Rattle.repair.proofs.helper_message.Tie as tie
 

@@ -6,8 +6,8 @@ use borrow.Author.Needs.{needs}
 use lib.ListN.{length}
 use Rattle.shape.specs.Refusals.{answerNumber}
 use Rattle.code.specs.Code.{narrow}
-use Rattle.repair.specs.Refusals.{wholeRefusal}
-use Rattle.repair.proofs.Judged.{turned-back, turned-number, lists-ready, lists-accepted, WholePassed, whole-passed}
+use Rattle.judging.specs.Refusals.{wholeRefusal}
+use Rattle.judging.proofs.Judged.{turned-back, turned-number, lists-ready, lists-accepted, WholePassed, whole-passed}
 use Rattle.repair.proofs.Promised.{repaired-promise}
 use Rattle.repair.proofs.Assembly.{wire-due, wired, wire-is, nodes-are}
 use Rattle.repair.proofs.repair.Statement.{statement}

@@ -6,8 +6,8 @@ use Rattle.shape.specs.Refusals.{answerNumber}
 use Rattle.shape.proofs.Answers.{afterwards-done}
 use Rattle.code.specs.Code.{narrow}
 use Rattle.classes.specs.Steps.{contents}
-use Rattle.repair.specs.Refusals.{secondStepRefusal}
-use Rattle.repair.proofs.Judged.{turned-back, lists-ready, SecondPassed, second-passed}
+use Rattle.judging.specs.Refusals.{secondStepRefusal}
+use Rattle.judging.proofs.Judged.{turned-back, lists-ready, SecondPassed, second-passed}
 use Rattle.repair.proofs.second_step.Statement.{statement}
 use Rattle.repair.proofs.second_step.Tie as tie
 

@@ -1,4 +1,4 @@
--- `repair::helpers_bad` meets its contract: all symbols of the helpers passed are good. Assumes nothing.
+-- `judging::helpers_bad` meets its contract: all symbols of the helpers passed are good. Assumes nothing.
 use mathlib.Core.Path.{_≡_, refl, sym, ap, _∙_}
 use mathlib.Core.Bool.{Bool, not, true, false}
 use mathlib.Core.List.{List}
@@ -16,9 +16,9 @@ use Rattle.shape.specs.Shape.{size}
 use Rattle.shape.specs.Refusals.{symbolBad}
 use Rattle.shape.proofs.Accepted.{shape-accepted}
 use Rattle.code.specs.Code.{narrow}
-use Rattle.repair.specs.Refusals.{nodeGood}
-use Rattle.repair.proofs.helpers_bad.Statement.{statement}
-use Rattle.repair.proofs.helpers_bad.Tie as tie
+use Rattle.judging.specs.Refusals.{nodeGood}
+use Rattle.judging.proofs.helpers_bad.Statement.{statement}
+use Rattle.judging.proofs.helpers_bad.Tie as tie
 
 -- the symbols of node i are good, with this many symbols a node
 good : ℕ → List ℕ → ℕ → Bool

@@ -1,13 +1,13 @@
--- `repair::judge_message` meets its contract: causes 1 to 3, the lengths, then the symbols. Assumes nothing.
+-- `judging::judge_message` meets its contract: causes 1 to 3, the lengths, then the symbols. Assumes nothing.
 use mathlib.Core.Path.{sym, _∙_}
 use borrow.Author.Needs.{needs}
 use Rattle.lists.specs.Lists.{outside}
 use Rattle.shape.specs.Refusals.{wrongLength}
 use Rattle.classes.specs.Classes.{messageSize}
-use Rattle.repair.specs.Refusals.{messageRefusal}
-use Rattle.repair.proofs.Judged.{judged-stop, judged-listed, judged-length, judged-symbols, judged-done}
-use Rattle.repair.proofs.judge_message.Statement.{statement}
-use Rattle.repair.proofs.judge_message.Tie as tie
+use Rattle.judging.specs.Refusals.{messageRefusal}
+use Rattle.judging.proofs.Judged.{judged-stop, judged-listed, judged-length, judged-symbols, judged-done}
+use Rattle.judging.proofs.judge_message.Statement.{statement}
+use Rattle.judging.proofs.judge_message.Tie as tie
 
 returns : tie.Need-returns
 unfolding messageRefusal outside

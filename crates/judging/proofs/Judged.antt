@@ -21,8 +21,7 @@ use Rattle.shape.proofs.Answers.{number-positive, afterwards-refused}
 use Rattle.code.specs.Code.{narrow}
 use Rattle.code.proofs.Accepted.{narrow-accepted}
 use Rattle.classes.specs.Classes.{batch, messageSize}
-use Rattle.repair.specs.Refusals.{listsRefusal, messageRefusal, firstStepRefusal, secondStepRefusal, nodeGood, wholeRefusal}
-use Rattle.steps.specs.Solving.{Helped}
+use Rattle.judging.specs.Refusals.{listsRefusal, messageRefusal, firstStepRefusal, secondStepRefusal, nodeGood, wholeRefusal}
 use Rattle.classes.proofs.Dead.{Accepted}
 
 pub refuse-true : (t : Bool) (number rest : ℕ) → t ≡ true → refuse t number rest ≡ number
@@ -191,18 +190,6 @@ first-passed s dead helpers new messages pairs sums e =
       pairs-due = right-length _ _ (m .1);
       sums-due = right-length _ _ (l .1);
       below = symbols-accepted (narrow .modulus) messages (p .2);
-    }
-
-pub first-helped : (s : Shape) (dead helpers : List ℕ) (new : ℕ) (messages : List ℕ) (pairs sums u : ℕ)
-    → FirstPassed s dead helpers new messages pairs sums → u < length dead → Helped s dead helpers u messages
-first-helped s dead helpers new messages pairs sums u P l =
-    let r = repair-accepted s dead helpers (P .listed .lists) in
-    record {
-      rises = r .helpers-rising;
-      count = r .helpers-count;
-      rank = l;
-      long = P .long;
-      below = λ j x h k. P .below (j * messageSize s dead + x) (rw (P .long) (digits-lt h k));
     }
 
 -- a second step

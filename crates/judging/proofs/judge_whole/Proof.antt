@@ -1,4 +1,4 @@
--- `repair::judge_whole` meets its contract: causes 1 to 3, the lengths, then the helpers' symbols. Assumes nothing.
+-- `judging::judge_whole` meets its contract: causes 1 to 3, the lengths, then the helpers' symbols. Assumes nothing.
 use mathlib.Core.Path.{sym, _∙_}
 use mathlib.Core.Bool.{false}
 use Prim.Native.Nat.{_+_, _-_, _*_, _≤_}
@@ -11,10 +11,10 @@ use Rattle.classes.specs.Classes.{messageSize}
 use Rattle.lists.proofs.Tests.{neither}
 use Rattle.shape.specs.Shape.{mostNodes}
 use Rattle.shape.proofs.Accepted.{repair-accepted}
-use Rattle.repair.specs.Refusals.{wholeRefusal}
-use Rattle.repair.proofs.Judged.{Listed, small, share-fits, right-length, judged-stop, judged-listed, judged-length, judged-symbols, judged-done}
-use Rattle.repair.proofs.judge_whole.Statement.{statement}
-use Rattle.repair.proofs.judge_whole.Tie as tie
+use Rattle.judging.specs.Refusals.{wholeRefusal}
+use Rattle.judging.proofs.Judged.{Listed, small, share-fits, right-length, judged-stop, judged-listed, judged-length, judged-symbols, judged-done}
+use Rattle.judging.proofs.judge_whole.Statement.{statement}
+use Rattle.judging.proofs.judge_whole.Tie as tie
 
 returns : tie.Need-returns
 unfolding wholeRefusal

@@ -1,4 +1,4 @@
--- `repair::judge_first` meets its contract: causes 1 to 3, the lengths, then the symbols. Assumes nothing.
+-- `judging::judge_first` meets its contract: causes 1 to 3, the lengths, then the symbols. Assumes nothing.
 use mathlib.Core.Path.{sym, _∙_}
 use mathlib.Core.Bool.{not}
 use Prim.Native.Nat.{_+_, _-_, _≤_}
@@ -8,10 +8,10 @@ use lib.ListN.{length}
 use Rattle.lists.specs.Lists.{outside}
 use Rattle.shape.specs.Refusals.{wrongLength}
 use Rattle.classes.specs.Classes.{messageSize}
-use Rattle.repair.specs.Refusals.{firstStepRefusal}
-use Rattle.repair.proofs.Judged.{Listed, small, share-fits, judged-stop, judged-listed, judged-length, judged-symbols, judged-done}
-use Rattle.repair.proofs.judge_first.Statement.{statement}
-use Rattle.repair.proofs.judge_first.Tie as tie
+use Rattle.judging.specs.Refusals.{firstStepRefusal}
+use Rattle.judging.proofs.Judged.{Listed, small, share-fits, judged-stop, judged-listed, judged-length, judged-symbols, judged-done}
+use Rattle.judging.proofs.judge_first.Statement.{statement}
+use Rattle.judging.proofs.judge_first.Tie as tie
 
 returns : tie.Need-returns
 unfolding firstStepRefusal outside

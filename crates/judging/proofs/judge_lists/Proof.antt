@@ -1,4 +1,4 @@
--- `repair::judge_lists` meets its contract: causes 1, 2 and 3 in turn. Assumes nothing.
+-- `judging::judge_lists` meets its contract: causes 1, 2 and 3 in turn. Assumes nothing.
 use mathlib.Core.Path.{_≡_, sym, _∙_}
 use mathlib.Core.Bool.{false}
 use native.Mathlib.Omega.{arith}
@@ -7,10 +7,10 @@ use Rattle.shape.specs.Refusals.{shapeBad}
 use Rattle.lists.proofs.Tests.{neither}
 use Rattle.shape.proofs.Accepted.{shape-accepted, repair-accepted}
 use Rattle.classes.specs.Classes.{batch}
-use Rattle.repair.specs.Refusals.{listsRefusal}
+use Rattle.judging.specs.Refusals.{listsRefusal}
 use Rattle.classes.proofs.Sizes.{batch-pos}
-use Rattle.repair.proofs.judge_lists.Statement.{statement}
-use Rattle.repair.proofs.judge_lists.Tie as tie
+use Rattle.judging.proofs.judge_lists.Statement.{statement}
+use Rattle.judging.proofs.judge_lists.Tie as tie
 
 returns : tie.Need-returns
 unfolding listsRefusal

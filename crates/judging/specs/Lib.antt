@@ -1,0 +1,2 @@
+-- When the calls of a repair turn back.
+pub mod Refusals
