@@ -55,7 +55,8 @@ fn class_of(g: Layout, dead: &[usize], a: usize) -> usize
     let top = g.top;
     let mut class = 0;
     for v in 0..top {
-        class = mixed(class, v, dead[batch * v], a);
+        let node = dead[batch * v];
+        class = mixed(class, v, node, a);
     }
     class
 }
@@ -141,7 +142,8 @@ pub fn place(g: Layout, dead: &[usize], u: usize, which: usize, e: usize) -> usi
     if which == 0 {
         place_of(g, dead, 0, e / places, e % places)
     } else {
-        let turned = flipped(dead[u], e % places);
+        let node = dead[u];
+        let turned = flipped(node, e % places);
         place_of(g, dead, partner(g, dead, u), e / places, turned)
     }
 }

@@ -30,14 +30,14 @@ within c =
     let l : c .before .loop .v < top (c .before .before .before .args .dead .now) = omega (arith, R .top-is) in
     (rw (R .batch-is) (first-lt _ _ l), l)
 
-mul-mixed : tie.Need-mul-mixed Inv-loop μ-loop
-mul-mixed c = omega (arith, within c .0)
+mul-node : tie.Need-mul-node Inv-loop μ-loop
+mul-node c = omega (arith, within c .0)
 
-mul-mixed-2 : tie.Need-mul-mixed-2 Inv-loop μ-loop
-mul-mixed-2 c = omega (arith, within c .0)
+mul-node-2 : tie.Need-mul-node-2 Inv-loop μ-loop
+mul-node-2 c = omega (arith, within c .0)
 
-shared-slice-read-mixed : tie.Need-shared-slice-read-mixed Inv-loop μ-loop
-shared-slice-read-mixed c = within (c .before) .0
+shared-slice-read-node : tie.Need-shared-slice-read-node Inv-loop μ-loop
+shared-slice-read-node c = within (c .before) .0
 
 mixed-requires : tie.Need-mixed-requires Inv-loop μ-loop
 unfolding node
@@ -67,9 +67,9 @@ class-of-spec =
     Inv-loop
     μ-loop
     loop-holds
-    mul-mixed
-    mul-mixed-2
-    shared-slice-read-mixed
+    mul-node
+    mul-node-2
+    shared-slice-read-node
     mixed-requires
     (λ c. search needs)
     (λ c. search needs)
