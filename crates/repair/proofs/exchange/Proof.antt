@@ -17,11 +17,11 @@ use Rattle.repair.proofs.exchange.Statement.{statement}
 use Rattle.repair.proofs.exchange.Tie as tie
 
 abbrev Inv-loop : tie.InvT-loop
-Inv-loop g dead helpers told nodes₀ wire₀ full u₀ u-end nodes wire u =
-    (u ≤ length dead) × (u-end ≡ length dead) × Exchanging (g .shape) dead helpers u nodes₀ nodes wire₀ wire
+Inv-loop g dead helpers told nodes₀ wire₀ full ranks u₀ nodes wire u =
+    (u ≤ length dead) × (ranks ≡ length dead) × Exchanging (g .shape) dead helpers u nodes₀ nodes wire₀ wire
 
 abbrev μ-loop : tie.MeasureT-loop
-μ-loop g dead helpers told nodes₀ wire₀ full u₀ u-end nodes wire u = u-end - u
+μ-loop g dead helpers told nodes₀ wire₀ full ranks u₀ nodes wire u = ranks - u
 
 size-requires : tie.Need-size-requires Inv-loop μ-loop
 size-requires c κs = c .before .before .before .before .pre .0 .shaped

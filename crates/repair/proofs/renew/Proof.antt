@@ -18,11 +18,11 @@ use Rattle.repair.proofs.renew.Statement.{statement}
 use Rattle.repair.proofs.renew.Tie as tie
 
 abbrev Inv-loop : tie.InvT-loop
-Inv-loop g dead told nodes₀ wire full base part u₀ u-end nodes u =
-    (u ≤ length dead) × (u-end ≡ length dead) × Renewing (g .shape) dead u nodes₀ nodes wire
+Inv-loop g dead told nodes₀ wire full base part count u₀ nodes u =
+    (u ≤ length dead) × (count ≡ length dead) × Renewing (g .shape) dead u nodes₀ nodes wire
 
 abbrev μ-loop : tie.MeasureT-loop
-μ-loop g dead told nodes₀ wire full base part u₀ u-end nodes u = u-end - u
+μ-loop g dead told nodes₀ wire full base part count u₀ nodes u = count - u
 
 size-requires : tie.Need-size-requires Inv-loop μ-loop
 size-requires c κs = c .before .before .before .pre .0 .shaped
