@@ -2,10 +2,10 @@
 // of the buffer lent to it, goes into the line's digest; behind it stand how often each number was answered, 0 to 8.
 // The stored output is written by another program, from document 01 alone: python3 tests/card_expected.py > crates/card_test/stdout
 use card::Header;
-use numbers::Number;
 use card::Packed;
 use card::Unpacked;
 use libc::STDOUT_FILENO;
+use numbers::Number;
 use shape::Shape;
 use shape::number_of;
 

@@ -139,7 +139,13 @@ fn helpers_bad(s: Shape, helpers: &[usize], nodes: &[u16]) -> bool
 }
 
 // What repair turns back for.
-pub fn judge_whole(s: Shape, dead: &[usize], helpers: &[usize], nodes: &[u16], wire: usize) -> Answer
+pub fn judge_whole(
+    s: Shape,
+    dead: &[usize],
+    helpers: &[usize],
+    nodes: &[u16],
+    wire: usize,
+) -> Answer
     ensures { λ r. ⌜ answerNumber r ≡ wholeRefusal narrow s (now (dead .entry)) (now (helpers .entry)) (now (nodes .entry)) wire ⌝ }
 {
     let lists = judge_lists(s, dead, helpers, false);
