@@ -98,6 +98,15 @@ pub fn fill_symbols(often: u64, start: u64, symbols: &mut [u16]) {
     }
 }
 
+// The first n symbols.
+pub fn front_symbols(symbols: &[u16], n: usize) -> &[u16] {
+    if symbols.len() < n {
+        symbols
+    } else {
+        &symbols[0..n]
+    }
+}
+
 // ---- digests
 
 // A digest with x added to it.
@@ -146,20 +155,20 @@ pub fn nothing() -> Tally {
 }
 
 // The tally with x added to its digest.
-pub fn taken(t: Tally, x: u64) -> Tally {
+pub fn taken(t: Tally, x: usize) -> Tally {
     let counts = t.counts;
     let d = t.digest;
     Tally {
-        digest: (d % PRIME * BASE + x % PRIME) % PRIME,
+        digest: (d % PRIME * BASE + x as u64 % PRIME) % PRIME,
         counts,
     }
 }
 
 // The tally with one more answer of a number.
-pub fn counted(t: Tally, number: u64) -> Tally {
+pub fn counted(t: Tally, number: usize) -> Tally {
     let mut counts = t.counts;
     let digest = t.digest;
-    let i = (number % 9) as usize;
+    let i = number % 9;
     counts[i] = counts[i] % PRIME + 1;
     taken(Tally { digest, counts }, number)
 }
@@ -168,7 +177,7 @@ pub fn taken_symbols(start: Tally, symbols: &[u16]) -> Tally {
     let mut t = start;
     let mut i = 0;
     while i < symbols.len() {
-        t = taken(t, wide(symbols[i]));
+        t = taken(t, wide(symbols[i]) as usize);
         i += 1;
     }
     t
@@ -178,7 +187,7 @@ pub fn taken_bytes(start: Tally, bytes: &[u8]) -> Tally {
     let mut t = start;
     let mut i = 0;
     while i < bytes.len() {
-        t = taken(t, wide_byte(bytes[i]));
+        t = taken(t, wide_byte(bytes[i]) as usize);
         i += 1;
     }
     t
@@ -238,6 +247,12 @@ pub fn print(n: u64) {
 
 pub fn end_line() {
     io::write_all(STDOUT_FILENO, b"\n");
+}
+
+pub fn print_shape(s: Shape) {
+    print(s.n as u64);
+    print(s.k as u64);
+    print(s.layers as u64);
 }
 
 // The line of a tally.
