@@ -244,75 +244,6 @@ def apart(seed):
     print(0, mixed_symbols(0, wire), mixed_symbols(0, [x for node in nodes for x in node]), *[1] * pieces, "")
 
 
-# ---- turning back
-
-def rising(n, nodes):
-    return all(0 <= i < n for i in nodes) and all(x < y for x, y in zip(nodes, nodes[1:]))
-
-
-def common_cause(n, k, layers, dead, helpers, named):
-    if not (3 <= n <= 12 and 1 <= k <= n - 2 and 1 <= layers <= 15):
-        return 1
-    h = len(dead)
-    lists = rising(n, dead) and rising(n, helpers) and 1 <= h <= n - k - 1 and len(helpers) == k + 1
-    if not (lists and named) or set(dead) & set(helpers):
-        return 2
-    return 3 if layers % odd_part(h + 1) else 0
-
-
-def cause(common, lengths, symbols):
-    return common or (4 if any(x != y for x, y in lengths) else 5 if any(x > 256 for x in symbols) else 0)
-
-
-def refused(shape, dead, helpers, helper, new, x, room):
-    """The four calls of symbols with x in front; the buffers hold sevens, or what the call gives."""
-    n, k, layers = shape
-    h, size = len(dead), layers << n
-    share = size // (h + 1)
-    given = [x] + [0] * 7
-    words = []
-
-    def told(number, buffer):
-        words.extend([number, mixed_symbols(0, buffer)])
-
-    common = common_cause(n, k, layers, dead, helpers, helper in helpers and new in dead)
-    number = cause(common, [(8, size), (room, share)], given)
-    told(number, [7] * room if number else message(Plan(n, k, layers, dead), dead.index(new), given))
-    common = common_cause(n, k, layers, dead, helpers, new in dead)
-    number = cause(common, [(8, (k + 1) * share), (2 * room, 2 * share), (0, (h - 1) * share)], given)
-    pairs = [7] * (2 * room)
-    if not number:
-        messages = [given[j * share:(j + 1) * share] for j in range(k + 1)]
-        pairs = first_step(Plan(n, k, layers, dead), helpers, dead.index(new), messages)[0]
-    told(number, pairs)
-    number = cause(common, [(8, 2 * share), (0, (h - 1) * share), (2 * room, size)], given)
-    told(number, [7] * (2 * room) if number else second_step(Plan(n, k, layers, dead), dead.index(new), given, {}))
-    nodes = [[65535] + [0] * 7, given, [0] * 8]
-    common = common_cause(n, k, layers, dead, helpers, True)
-    looked = [y for i in helpers if i < 3 for y in nodes[i]]
-    number = cause(common, [(24, n * size), (2 * room, h * (k + h) * share)], looked)
-    wire = [7] * (2 * room)
-    if not number:
-        wire, back = repair(Plan(n, k, layers, dead), helpers, nodes)
-        for u, i in enumerate(dead):
-            nodes[i] = back[u]
-    told(number, wire)
-    words.append(mixed_symbols(0, [y for node in nodes for y in node]))
-    print(*words, "")
-
-
-def causes():
-    s = (3, 1, 1)
-    refused(s, (0,), (1, 2), 1, 0, 256, 4)
-    refused((2, 1, 1), (0,), (0, 1), 0, 1, 257, 3)
-    refused(s, (0,), (0, 1), 1, 0, 257, 3)
-    refused(s, (0,), (1, 2), 1, 1, 256, 4)
-    refused(s, (0,), (1, 2), 0, 0, 256, 4)
-    refused((4, 1, 1), (0, 1), (2, 3), 2, 0, 257, 3)
-    refused(s, (0,), (1, 2), 1, 0, 257, 3)
-    refused(s, (0,), (1, 2), 1, 0, 257, 4)
-
-
 def main():
     for n in range(3, 9):
         for k in range(1, n - 1):
@@ -322,7 +253,7 @@ def main():
         large(*case)
     for seed in (1, 2, 3):
         apart(seed)
-    causes()
 
 
-main()
+if __name__ == '__main__':
+    main()

@@ -124,7 +124,7 @@ fn wrote(s: Shape, bytes: &[u8], nodes: &mut [u16]) {
 fn try_write(s: Shape, long: usize, room: usize) {
     let bytes = [6u8; 9];
     let mut nodes = [7u16; 64];
-    wrote(s, front(&bytes, long), &mut nodes[..least(room, 64)]);
+    wrote(s, front(&bytes, long), &mut nodes[0..least(room, 64)]);
 }
 
 // 0, the number of the cause, or 9 and the equation.
@@ -154,7 +154,7 @@ fn restored(s: Shape, list: &[usize], symbols: &[u16], nodes: &mut [u16]) {
 
 fn try_restore(s: Shape, list: &[usize], symbols: &[u16], room: usize) {
     let mut nodes = [7u16; 64];
-    restored(s, list, symbols, &mut nodes[..least(room, 64)]);
+    restored(s, list, symbols, &mut nodes[0..least(room, 64)]);
 }
 
 fn opened(s: Shape, list: &[usize], symbols: &[u16], length: usize, text: &mut [u8]) {
@@ -164,7 +164,7 @@ fn opened(s: Shape, list: &[usize], symbols: &[u16], length: usize, text: &mut [
 
 fn try_open(s: Shape, list: &[usize], symbols: &[u16], room: usize, length: usize) {
     let mut text = [7u8; 64];
-    opened(s, list, symbols, length, &mut text[..least(room, 64)]);
+    opened(s, list, symbols, length, &mut text[0..least(room, 64)]);
 }
 
 // ---- repairing
@@ -230,9 +230,17 @@ fn try_steps(
     let mut pairs = [7u16; 8];
     let mut back = [7u16; 8];
     let long = least(room, 4);
-    sent(s, dead, helpers, helper, new, symbols, &mut message[..long]);
-    stepped(s, dead, helpers, new, symbols, &mut pairs[..2 * long]);
-    finished(s, dead, helpers, new, symbols, &mut back[..2 * long]);
+    sent(
+        s,
+        dead,
+        helpers,
+        helper,
+        new,
+        symbols,
+        &mut message[0..long],
+    );
+    stepped(s, dead, helpers, new, symbols, &mut pairs[0..2 * long]);
+    finished(s, dead, helpers, new, symbols, &mut back[0..2 * long]);
 }
 
 fn repaired(s: Shape, dead: &[usize], helpers: &[usize], nodes: &mut [u16], wire: &mut [u16]) {
@@ -251,7 +259,7 @@ fn try_repair(s: Shape, dead: &[usize], helpers: &[usize], x: usize, room: usize
         dead,
         helpers,
         &mut nodes,
-        &mut wire[..2 * least(room, 4)],
+        &mut wire[0..2 * least(room, 4)],
     );
 }
 

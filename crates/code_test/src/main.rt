@@ -5,6 +5,7 @@ use shape::Shape;
 use shape::number_of;
 use tally::end_line;
 use tally::fill_symbols;
+use tally::front_nodes;
 use tally::least;
 use tally::mixed;
 use tally::mixed_bytes;
@@ -70,7 +71,10 @@ fn fill_bytes(start: u64, bytes: &mut [u8]) {
 
 // Whether a node is taken, of `left` nodes that are left, with `at` of k taken before.
 fn taken(seed: u64, left: usize, k: usize, at: usize) -> bool {
-    if (left == 0) | (k <= at) {
+    if left == 0 {
+        return false;
+    }
+    if k <= at {
         return false;
     }
     seed % (left as u64) < (k - at) as u64
@@ -131,11 +135,6 @@ fn mixed_check(h: u64, answer: Checked) -> u64 {
     }
 }
 
-// The first k nodes of a list.
-fn first_of(list: &[usize], k: usize) -> &[usize] {
-    if k <= list.len() { &list[..k] } else { list }
-}
-
 // All nodes from those listed.
 fn restored(s: Shape, list: &[usize], symbols: &[u16], back: &mut [u16]) -> u64 {
     mixed_symbols(number(code::restore(s, list, symbols, back)), back)
@@ -159,7 +158,7 @@ fn subset(
     text: &mut [u8],
 ) {
     let all = picked(seed, s.n, s.k);
-    let list = first_of(&all, s.k);
+    let list = front_nodes(&all, s.k);
     gather(list, places, nodes, symbols);
     print(opened(restored(s, list, symbols, back), s, list, symbols, text));
 }
@@ -167,7 +166,7 @@ fn subset(
 // The codeword that has any symbols at k of the nodes: restored, checked and opened.
 fn anything(s: Shape, seed: u64, symbols: &mut [u16], back: &mut [u16], text: &mut [u8]) {
     let all = picked(seed, s.n, s.k);
-    let list = first_of(&all, s.k);
+    let list = front_nodes(&all, s.k);
     fill_symbols(2, seed, symbols);
     let h = restored(s, list, symbols, back);
     print(opened(mixed_check(h, code::check(s, back)), s, list, symbols, text));
@@ -206,8 +205,8 @@ fn written(s: Shape, seed: u64, nodes: &mut [u16], text: &mut [u8]) {
     fill_bytes(next(seed), text);
 }
 
-// The line of one archive: what is written, checked, restored and opened from two subsets, damaged twice, and opened again.
-fn archive(
+// An archive written, and restored and opened from two subsets.
+fn intact(
     s: Shape,
     seed: u64,
     places: usize,
@@ -220,9 +219,35 @@ fn archive(
     written(s, seed, nodes, text);
     subset(s, second, places, nodes, symbols, back, text);
     subset(s, next(second), places, nodes, symbols, back, text);
+}
+
+// It damaged twice, and restored and opened again.
+fn spoiled(
+    s: Shape,
+    seed: u64,
+    places: usize,
+    nodes: &mut [u16],
+    symbols: &mut [u16],
+    back: &mut [u16],
+    text: &mut [u8],
+) {
     damaged(s, seed, nodes);
-    damaged(s, second, nodes);
+    damaged(s, next(seed), nodes);
     subset(s, seed, places, nodes, symbols, back, text);
+}
+
+// The line of one archive.
+fn archive(
+    s: Shape,
+    seed: u64,
+    places: usize,
+    nodes: &mut [u16],
+    symbols: &mut [u16],
+    back: &mut [u16],
+    text: &mut [u8],
+) {
+    intact(s, seed, places, nodes, symbols, back, text);
+    spoiled(s, seed, places, nodes, symbols, back, text);
     anything(s, seed, symbols, back, text);
     end_line();
 }
@@ -245,10 +270,10 @@ fn case(c: usize, nodes: &mut [u16], symbols: &mut [u16], back: &mut [u16], text
         s,
         (c % CASES + 1) as u64,
         places,
-        &mut nodes[..total],
-        &mut symbols[..data],
-        &mut back[..total],
-        &mut text[..length],
+        &mut nodes[0..total],
+        &mut symbols[0..data],
+        &mut back[0..total],
+        &mut text[0..length],
     );
 }
 

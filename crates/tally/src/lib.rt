@@ -67,6 +67,11 @@ pub fn places_of(s: Shape) -> usize {
     }
 }
 
+// The first k nodes of a list.
+pub fn front_nodes(list: &[usize], k: usize) -> &[usize] {
+    if list.len() < k { list } else { &list[0..k] }
+}
+
 // A list with i at place `at`.
 pub fn with(list: [usize; 12], at: usize, i: usize) -> [usize; 12]
     ensures { λ r. ⌜ length r ≡ length list ⌝ }
