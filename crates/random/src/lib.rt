@@ -6,11 +6,11 @@ use tally::least;
 use tally::next;
 use tally::number;
 use tally::places_of;
+use tally::print;
 use tally::shape_of;
 use tally::times;
 use tally::with;
 ghost use mathlib.Core.Path.{_≡_};
-ghost use Prim.Native.Nat.{_≤_};
 ghost use lib.ListN.{length};
 
 // The roles of a node.
@@ -41,6 +41,15 @@ pub fn trial_of(n: usize, k: usize, h: usize, layers: usize, sound: bool) -> Tri
         places: places_of(shape),
         sound,
     }
+}
+
+// n, k, h and L.
+pub fn print_trial(r: Trial) {
+    let s = r.shape;
+    print(s.n as u64);
+    print(s.k as u64);
+    print(r.dead as u64);
+    print(s.layers as u64);
 }
 
 // The symbols of a message, "N/(h+1)".

@@ -9,6 +9,7 @@ use random::all_symbols;
 use random::count;
 use random::filled;
 use random::picked;
+use random::print_trial;
 use random::random_roles;
 use random::trial_of;
 use random::wire_symbols;
@@ -319,17 +320,10 @@ fn small(c: usize, word: &mut [u16], nodes: &mut [u16], wire: &mut [u16]) {
 // Larger shape number c.
 fn large(c: usize, word: &mut [u16], nodes: &mut [u16], wire: &mut [u16]) {
     let row = LARGE[c % CASES];
-    print_row(row[0], row[1], row[2], row[3]);
     let r = trial_of(row[0], row[1], row[2], row[3], row[5] == 1);
+    print_trial(r);
     let seed = (c % CASES + 1) as u64 * 100;
     case(r, seed, seed, row[4], word, nodes, wire);
-}
-
-fn print_row(n: usize, k: usize, h: usize, layers: usize) {
-    print(n as u64);
-    print(k as u64);
-    print(h as u64);
-    print(layers as u64);
 }
 
 fn one(c: usize, word: &mut [u16], nodes: &mut [u16], wire: &mut [u16]) {
