@@ -317,13 +317,22 @@ fn small(c: usize, word: &mut [u16], nodes: &mut [u16], wire: &mut [u16]) {
     );
 }
 
+fn trial_at(c: usize) -> Trial {
+    let row = LARGE[c % CASES];
+    trial_of(row[0], row[1], row[2], row[3], row[5] == 1)
+}
+
+fn repairs_at(c: usize) -> usize {
+    let row = LARGE[c % CASES];
+    row[4]
+}
+
 // Larger shape number c.
 fn large(c: usize, word: &mut [u16], nodes: &mut [u16], wire: &mut [u16]) {
-    let row = LARGE[c % CASES];
-    let r = trial_of(row[0], row[1], row[2], row[3], row[5] == 1);
-    print_trial(r);
+    let r = trial_at(c);
     let seed = (c % CASES + 1) as u64 * 100;
-    case(r, seed, seed, row[4], word, nodes, wire);
+    print_trial(r);
+    case(r, seed, seed, repairs_at(c), word, nodes, wire);
 }
 
 fn one(c: usize, word: &mut [u16], nodes: &mut [u16], wire: &mut [u16]) {

@@ -269,10 +269,8 @@ fn ranks(
     t
 }
 
-// ---- the lines
-
 // The steps of all new nodes, in parts of the buffers for messages of `size` symbols.
-fn steps(
+fn ranks_in(
     s: Shape,
     dead: &[usize],
     helpers: &[usize],
@@ -282,10 +280,11 @@ fn steps(
     pairs: &mut [u16],
     sums: &mut [u16],
     symbols: &mut [u16],
-) {
+) -> Same {
     let two = least(times(2, size), pairs.len());
     let many = least(times(fellows(dead.len()), size), sums.len());
-    let t = ranks(
+    let node = least(places_of(s), symbols.len());
+    ranks(
         s,
         dead,
         helpers,
@@ -293,39 +292,64 @@ fn steps(
         wire,
         &mut pairs[0..two],
         &mut sums[0..many],
-        symbols,
-    );
-    print(t.sums);
-    print(t.nodes);
-    print(t.pairs);
+        &mut symbols[0..node],
+    )
 }
 
-// The calls one by one: the messages that are those of the wire, the sums that are, and the new nodes that are as the repair left them.
-fn apart(
+// ---- the lines
+
+fn print_messages(
+    s: Shape,
+    dead: &[usize],
+    helpers: &[usize],
+    nodes: &[u16],
+    wire: &[u16],
+    message: &mut [u16],
+    size: usize,
+) {
+    let one = least(size, message.len());
+    print(messages_same(s, dead, helpers, nodes, wire, &mut message[0..one]));
+}
+
+// The helpers' messages that are those of the wire.
+fn messages_apart(
     s: Shape,
     dead: &[usize],
     helpers: &[usize],
     size: usize,
     nodes: &[u16],
     wire: &[u16],
-    pairs: &mut [u16],
-    sums: &mut [u16],
-    symbols: &mut [u16],
 ) {
-    let one = least(size, symbols.len());
-    let node = least(places_of(s), symbols.len());
-    print(messages_same(s, dead, helpers, nodes, wire, &mut symbols[0..one]));
-    steps(
+    let mut message = [0u16; MOST_PLACES];
+    print_messages(s, dead, helpers, nodes, wire, &mut message, size);
+}
+
+// The sums that are those of the wire, the new nodes that are as the repair left them, and the own pairs.
+fn steps_apart(
+    s: Shape,
+    dead: &[usize],
+    helpers: &[usize],
+    size: usize,
+    nodes: &[u16],
+    wire: &[u16],
+) {
+    let mut pairs = [0u16; MOST_PLACES];
+    let mut sums = [0u16; MOST_PLACES];
+    let mut symbols = [0u16; MOST_PLACES];
+    let t = ranks_in(
         s,
         dead,
         helpers,
         size,
         nodes,
         wire,
-        pairs,
-        sums,
-        &mut symbols[0..node],
+        &mut pairs,
+        &mut sums,
+        &mut symbols,
     );
+    print(t.sums);
+    print(t.nodes);
+    print(t.pairs);
 }
 
 // The whole repair.
@@ -335,83 +359,51 @@ fn whole(s: Shape, dead: &[usize], helpers: &[usize], nodes: &mut [u16], wire: &
     print(mixed_symbols(0, nodes));
 }
 
-// A repair of random nodes, as a whole and then call by call.
-fn line(
-    r: Trial,
-    seed: u64,
+// A repair, as a whole and then call by call.
+fn repaired(
+    s: Shape,
+    dead: &[usize],
+    helpers: &[usize],
+    size: usize,
     nodes: &mut [u16],
     wire: &mut [u16],
-    pairs: &mut [u16],
-    sums: &mut [u16],
-    symbols: &mut [u16],
 ) {
+    whole(s, dead, helpers, nodes, wire);
+    messages_apart(s, dead, helpers, size, nodes, wire);
+    steps_apart(s, dead, helpers, size, nodes, wire);
+    end_line();
+}
+
+// A repair of random nodes.
+fn line(r: Trial, seed: u64, nodes: &mut [u16], wire: &mut [u16]) {
     let roles = random_roles(seed, r);
     let dying = picked(&roles, DEAD);
     let helping = picked(&roles, HELPING);
     let dead = front_nodes(&dying, r.dead);
     let helpers = front_nodes(&helping, r.helpers);
-    whole(r.shape, dead, helpers, nodes, wire);
-    apart(
-        r.shape,
-        dead,
-        helpers,
-        share(r),
-        nodes,
-        wire,
-        pairs,
-        sums,
-        symbols,
-    );
-    end_line();
+    repaired(r.shape, dead, helpers, share(r), nodes, wire);
 }
 
-fn filled_line(
-    r: Trial,
-    seed: u64,
-    nodes: &mut [u16],
-    wire: &mut [u16],
-    pairs: &mut [u16],
-    sums: &mut [u16],
-    symbols: &mut [u16],
-) {
+fn trial_at(c: usize) -> Trial {
+    let row = SHAPES[c % CASES];
+    trial_of(row[0], row[1], row[2], row[3], row[4] == 1)
+}
+
+// Case c, in the parts of the buffers that its shape asks for.
+fn case(c: usize, nodes: &mut [u16], wire: &mut [u16]) {
+    let r = trial_at(c);
+    let seed = (c % CASES + 1) as u64;
     let total = least(all_symbols(r), nodes.len());
     let length = least(wire_symbols(r), wire.len());
-    print(filled(r, seed, wire, &mut nodes[0..total]));
-    line(
-        r,
-        seed,
-        &mut nodes[0..total],
-        &mut wire[0..length],
-        pairs,
-        sums,
-        symbols,
-    );
-}
-
-fn case(
-    c: usize,
-    nodes: &mut [u16],
-    wire: &mut [u16],
-    pairs: &mut [u16],
-    sums: &mut [u16],
-    symbols: &mut [u16],
-) {
-    let row = SHAPES[c % CASES];
-    let r = trial_of(row[0], row[1], row[2], row[3], row[4] == 1);
     print_trial(r);
-    filled_line(r, (c % CASES + 1) as u64, nodes, wire, pairs, sums, symbols);
+    print(filled(r, seed, wire, &mut nodes[0..total]));
+    line(r, seed, &mut nodes[0..total], &mut wire[0..length]);
 }
 
-fn cases(
-    nodes: &mut [u16],
-    wire: &mut [u16],
-    pairs: &mut [u16],
-    sums: &mut [u16],
-    symbols: &mut [u16],
-) {
+fn cases(nodes: &mut [u16], wire: &mut [u16]) {
     let mut c = 0;
     while c < CASES {
-        case(c, nodes, wire, pairs, sums, symbols);
+        case(c, nodes, wire);
         c += 1;
     }
 }
@@ -419,8 +411,5 @@ fn cases(
 fn main() {
     let mut nodes = [0u16; MOST];
     let mut wire = [0u16; MOST_WIRE];
-    let mut pairs = [0u16; MOST_PLACES];
-    let mut sums = [0u16; MOST_PLACES];
-    let mut symbols = [0u16; MOST_PLACES];
-    cases(&mut nodes, &mut wire, &mut pairs, &mut sums, &mut symbols);
+    cases(&mut nodes, &mut wire);
 }

@@ -7,10 +7,10 @@ use Rattle.steps_test.proofs.cases.Statement.{statement}
 use Rattle.steps_test.proofs.cases.Tie as tie
 
 abbrev Inv-loop : tie.InvT-loop
-Inv-loop nodes₀ wire₀ pairs₀ sums₀ symbols₀ c₀ nodes wire pairs sums symbols c = (c ≤ 24) × (length nodes ≡ length nodes₀) × (length wire ≡ length wire₀) × (length pairs ≡ length pairs₀) × (length sums ≡ length sums₀) × (length symbols ≡ length symbols₀)
+Inv-loop nodes₀ wire₀ c₀ nodes wire c = (c ≤ 24) × (length nodes ≡ length nodes₀) × (length wire ≡ length wire₀)
 
 abbrev μ-loop : tie.MeasureT-loop
-μ-loop nodes₀ wire₀ pairs₀ sums₀ symbols₀ c₀ nodes wire pairs sums symbols c = 24 - c
+μ-loop nodes₀ wire₀ c₀ nodes wire c = 24 - c
 
 pub cases-spec : {M : Type 1} → statement M
 cases-spec =
@@ -20,9 +20,6 @@ cases-spec =
     μ-loop
     (λ c. search needs)
     (λ c κs. search needs)
-    (λ c. search needs)
-    (λ c. search needs)
-    (λ c. search needs)
     (λ c. search needs)
     (λ c. search needs)
     (λ c. search needs)
