@@ -128,17 +128,29 @@ fn formed(t: Tally, i: usize) -> Tally {
     unpacked(t, front(&card, end), 8)
 }
 
+fn layers_at(i: usize) -> usize {
+    let layers = LAYERS;
+    layers[i % 5]
+}
+
+fn node_at(i: usize) -> usize {
+    let nodes = NODES;
+    nodes[i % 5]
+}
+
+fn length_at(i: usize) -> usize {
+    let lengths = LENGTHS;
+    lengths[i % 5]
+}
+
 // The sample with another header.
 fn headed(t: Tally, i: usize) -> Tally {
-    let layers = LAYERS;
-    let nodes = NODES;
-    let lengths = LENGTHS;
     let mut card = SAMPLE;
     card[0] = (i % 15) as u8;
     card[1] = (i / 15 % 13) as u8;
-    card[2] = (layers[i / 195 % 5] % 256) as u8;
-    card[3] = (nodes[i / 975 % 5] % 256) as u8;
-    card[4] = (lengths[i / 4875 % 5] % 256) as u8;
+    card[2] = (layers_at(i / 195) % 256) as u8;
+    card[3] = (node_at(i / 975) % 256) as u8;
+    card[4] = (length_at(i / 4875) % 256) as u8;
     unpacked(t, &card, 8)
 }
 
@@ -178,15 +190,16 @@ fn header_of(n: usize, k: usize, layers: usize, node: usize, length: usize) -> H
 
 // Packing under a header, with a symbol that is none and a buffer that is too short, or not.
 fn pack_headed(t: Tally, i: usize) -> Tally {
-    let layers = LAYERS;
-    let nodes = NODES;
-    let lengths = LENGTHS;
     let n = if i % 15 < 14 { i % 15 } else { LARGEST };
     let mut symbols = [256u16; 8];
     symbols[5] = (256 + i / 24375 % 2) as u16;
-    let node = nodes[i / 975 % 5];
-    let length = lengths[i / 4875 % 5];
-    let header = header_of(n, i / 15 % 13, layers[i / 195 % 5], node, length);
+    let header = header_of(
+        n,
+        i / 15 % 13,
+        layers_at(i / 195),
+        node_at(i / 975),
+        length_at(i / 4875),
+    );
     packed(t, header, &symbols, 30 + i / 48750 % 2)
 }
 

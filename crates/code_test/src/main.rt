@@ -3,6 +3,8 @@
 use code::Checked;
 use shape::Shape;
 use shape::number_of;
+use tally::all_symbols;
+use tally::data_symbols;
 use tally::end_line;
 use tally::fill_symbols;
 use tally::front_nodes;
@@ -115,7 +117,8 @@ fn held(list: &[usize], places: usize, nodes: &[u16], e: usize) -> u16 {
     if place < nodes.len() { nodes[place] } else { 0 }
 }
 
-fn gather(list: &[usize], places: usize, nodes: &[u16], symbols: &mut [u16]) {
+fn gather(s: Shape, list: &[usize], nodes: &[u16], symbols: &mut [u16]) {
+    let places = places_of(s);
     let mut e = 0;
     while e < symbols.len() {
         symbols[e] = held(list, places, nodes, e);
@@ -151,7 +154,6 @@ fn opened(h: u64, s: Shape, list: &[usize], symbols: &[u16], text: &mut [u8]) ->
 fn subset(
     s: Shape,
     seed: u64,
-    places: usize,
     nodes: &[u16],
     symbols: &mut [u16],
     back: &mut [u16],
@@ -159,7 +161,7 @@ fn subset(
 ) {
     let all = picked(seed, s.n, s.k);
     let list = front_nodes(&all, s.k);
-    gather(list, places, nodes, symbols);
+    gather(s, list, nodes, symbols);
     print(opened(restored(s, list, symbols, back), s, list, symbols, text));
 }
 
@@ -209,7 +211,6 @@ fn written(s: Shape, seed: u64, nodes: &mut [u16], text: &mut [u8]) {
 fn intact(
     s: Shape,
     seed: u64,
-    places: usize,
     nodes: &mut [u16],
     symbols: &mut [u16],
     back: &mut [u16],
@@ -217,15 +218,14 @@ fn intact(
 ) {
     let second = next(seed);
     written(s, seed, nodes, text);
-    subset(s, second, places, nodes, symbols, back, text);
-    subset(s, next(second), places, nodes, symbols, back, text);
+    subset(s, second, nodes, symbols, back, text);
+    subset(s, next(second), nodes, symbols, back, text);
 }
 
 // It damaged twice, and restored and opened again.
 fn spoiled(
     s: Shape,
     seed: u64,
-    places: usize,
     nodes: &mut [u16],
     symbols: &mut [u16],
     back: &mut [u16],
@@ -233,21 +233,20 @@ fn spoiled(
 ) {
     damaged(s, seed, nodes);
     damaged(s, next(seed), nodes);
-    subset(s, seed, places, nodes, symbols, back, text);
+    subset(s, seed, nodes, symbols, back, text);
 }
 
 // The line of one archive.
 fn archive(
     s: Shape,
     seed: u64,
-    places: usize,
     nodes: &mut [u16],
     symbols: &mut [u16],
     back: &mut [u16],
     text: &mut [u8],
 ) {
-    intact(s, seed, places, nodes, symbols, back, text);
-    spoiled(s, seed, places, nodes, symbols, back, text);
+    intact(s, seed, nodes, symbols, back, text);
+    spoiled(s, seed, nodes, symbols, back, text);
     anything(s, seed, symbols, back, text);
     end_line();
 }
@@ -257,19 +256,21 @@ fn shape_number(c: usize, j: usize) -> usize {
     shape[j % 4]
 }
 
+fn shape_at(c: usize) -> Shape {
+    shape_of(shape_number(c, 0), shape_number(c, 1), shape_number(c, 2))
+}
+
 // Case c, in the parts of the buffers that its shape asks for.
 fn case(c: usize, nodes: &mut [u16], symbols: &mut [u16], back: &mut [u16], text: &mut [u8]) {
-    let s = shape_of(shape_number(c, 0), shape_number(c, 1), shape_number(c, 2));
-    let places = places_of(s);
-    let total = least(times(s.n, places), least(nodes.len(), back.len()));
-    let data = least(times(s.k, places), symbols.len());
+    let s = shape_at(c);
+    let total = least(all_symbols(s), least(nodes.len(), back.len()));
+    let data = least(data_symbols(s), symbols.len());
     let length = least(shape_number(c, 3), text.len());
     print_shape(s);
     print(length as u64);
     archive(
         s,
         (c % CASES + 1) as u64,
-        places,
         &mut nodes[0..total],
         &mut symbols[0..data],
         &mut back[0..total],

@@ -1,5 +1,6 @@
 // Random archives, codewords or not, and the roles of their nodes in a repair, for the tests of repairs.
 use shape::Shape;
+use tally::data_symbols;
 use tally::fill_symbols;
 use tally::front_nodes;
 use tally::least;
@@ -55,12 +56,6 @@ pub fn print_trial(r: Trial) {
 // The symbols of a message, "N/(h+1)".
 pub fn share(r: Trial) -> usize {
     r.places / (r.dead % 16 + 1)
-}
-
-// The symbols of all nodes.
-pub fn all_symbols(r: Trial) -> usize {
-    let s = r.shape;
-    times(s.n, r.places)
 }
 
 // The symbols of the wire, "h × (k+h) × N/(h+1)".
@@ -169,6 +164,6 @@ pub fn filled(r: Trial, seed: u64, symbols: &mut [u16], word: &mut [u16]) -> u64
         return 0;
     }
     let s = r.shape;
-    let data = least(times(s.k, r.places), symbols.len());
+    let data = least(data_symbols(s), symbols.len());
     codeword(s, seed, &mut symbols[0..data], word)
 }

@@ -5,7 +5,6 @@ use random::DEAD;
 use random::HELPING;
 use random::Trial;
 use random::UNLISTED;
-use random::all_symbols;
 use random::count;
 use random::filled;
 use random::picked;
@@ -14,6 +13,7 @@ use random::random_roles;
 use random::trial_of;
 use random::wire_symbols;
 use shape::Shape;
+use tally::all_symbols;
 use tally::end_line;
 use tally::front_nodes;
 use tally::least;
@@ -258,7 +258,7 @@ fn case(
     nodes: &mut [u16],
     wire: &mut [u16],
 ) {
-    let total = least(all_symbols(r), least(word.len(), nodes.len()));
+    let total = least(all_symbols(r.shape), least(word.len(), nodes.len()));
     let length = least(wire_symbols(r), wire.len());
     line(
         r,
@@ -317,14 +317,19 @@ fn small(c: usize, word: &mut [u16], nodes: &mut [u16], wire: &mut [u16]) {
     );
 }
 
-fn trial_at(c: usize) -> Trial {
+fn large_number(c: usize, j: usize) -> usize {
     let row = LARGE[c % CASES];
-    trial_of(row[0], row[1], row[2], row[3], row[5] == 1)
+    row[j % 6]
 }
 
-fn repairs_at(c: usize) -> usize {
-    let row = LARGE[c % CASES];
-    row[4]
+fn trial_at(c: usize) -> Trial {
+    trial_of(
+        large_number(c, 0),
+        large_number(c, 1),
+        large_number(c, 2),
+        large_number(c, 3),
+        large_number(c, 5) == 1,
+    )
 }
 
 // Larger shape number c.
@@ -332,7 +337,7 @@ fn large(c: usize, word: &mut [u16], nodes: &mut [u16], wire: &mut [u16]) {
     let r = trial_at(c);
     let seed = (c % CASES + 1) as u64 * 100;
     print_trial(r);
-    case(r, seed, seed, repairs_at(c), word, nodes, wire);
+    case(r, seed, seed, large_number(c, 4), word, nodes, wire);
 }
 
 fn one(c: usize, word: &mut [u16], nodes: &mut [u16], wire: &mut [u16]) {

@@ -3,7 +3,6 @@
 use random::DEAD;
 use random::HELPING;
 use random::Trial;
-use random::all_symbols;
 use random::filled;
 use random::picked;
 use random::print_trial;
@@ -12,6 +11,7 @@ use random::share;
 use random::trial_of;
 use random::wire_symbols;
 use shape::Shape;
+use tally::all_symbols;
 use tally::end_line;
 use tally::front_nodes;
 use tally::least;
@@ -298,19 +298,6 @@ fn ranks_in(
 
 // ---- the lines
 
-fn print_messages(
-    s: Shape,
-    dead: &[usize],
-    helpers: &[usize],
-    nodes: &[u16],
-    wire: &[u16],
-    message: &mut [u16],
-    size: usize,
-) {
-    let one = least(size, message.len());
-    print(messages_same(s, dead, helpers, nodes, wire, &mut message[0..one]));
-}
-
 // The helpers' messages that are those of the wire.
 fn messages_apart(
     s: Shape,
@@ -321,7 +308,8 @@ fn messages_apart(
     wire: &[u16],
 ) {
     let mut message = [0u16; MOST_PLACES];
-    print_messages(s, dead, helpers, nodes, wire, &mut message, size);
+    let one = least(size, MOST_PLACES);
+    print(messages_same(s, dead, helpers, nodes, wire, &mut message[0..one]));
 }
 
 // The sums that are those of the wire, the new nodes that are as the repair left them, and the own pairs.
@@ -352,13 +340,6 @@ fn steps_apart(
     print(t.pairs);
 }
 
-// The whole repair.
-fn whole(s: Shape, dead: &[usize], helpers: &[usize], nodes: &mut [u16], wire: &mut [u16]) {
-    print(number(repair::repair(s, dead, helpers, nodes, wire)));
-    print(mixed_symbols(0, wire));
-    print(mixed_symbols(0, nodes));
-}
-
 // A repair, as a whole and then call by call.
 fn repaired(
     s: Shape,
@@ -368,7 +349,9 @@ fn repaired(
     nodes: &mut [u16],
     wire: &mut [u16],
 ) {
-    whole(s, dead, helpers, nodes, wire);
+    print(number(repair::repair(s, dead, helpers, nodes, wire)));
+    print(mixed_symbols(0, wire));
+    print(mixed_symbols(0, nodes));
     messages_apart(s, dead, helpers, size, nodes, wire);
     steps_apart(s, dead, helpers, size, nodes, wire);
     end_line();
@@ -393,7 +376,7 @@ fn trial_at(c: usize) -> Trial {
 fn case(c: usize, nodes: &mut [u16], wire: &mut [u16]) {
     let r = trial_at(c);
     let seed = (c % CASES + 1) as u64;
-    let total = least(all_symbols(r), nodes.len());
+    let total = least(all_symbols(r.shape), nodes.len());
     let length = least(wire_symbols(r), wire.len());
     print_trial(r);
     print(filled(r, seed, wire, &mut nodes[0..total]));

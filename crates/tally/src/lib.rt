@@ -67,6 +67,16 @@ pub fn places_of(s: Shape) -> usize {
     }
 }
 
+// The symbols of all nodes.
+pub fn all_symbols(s: Shape) -> usize {
+    times(s.n, places_of(s))
+}
+
+// The symbols of k nodes.
+pub fn data_symbols(s: Shape) -> usize {
+    times(s.k, places_of(s))
+}
+
 // The first k nodes of a list.
 pub fn front_nodes(list: &[usize], k: usize) -> &[usize] {
     if list.len() < k { list } else { &list[0..k] }

@@ -1,0 +1,16 @@
+-- `code_test::main` meets its contract. Assumes nothing.
+use borrow.Author.Needs.{needs}
+use Rattle.tally.proofs.Buffers.{lent}
+use Rattle.code_test.proofs.main.Statement.{statement}
+use Rattle.code_test.proofs.main.Tie as tie
+
+pub main-spec : {M : Type 1} → statement M
+main-spec =
+    tie.close
+    (tie.spec
+    (λ c. lent 49152 0)
+    (λ c. lent 40960 0)
+    (λ c. lent 49152 0)
+    (λ c. lent 40960 0)
+    (λ c κs. search needs)
+    (λ c. search needs))
