@@ -26,7 +26,7 @@ ghost use Prim.Native.Nat.{_<_};
 ghost use lib.ListN.{length};
 
 // The shapes tried: n, k, layers and the transcript's length.
-const CASES: usize = 20;
+const CASES: usize = 21;
 
 const SHAPES: [[usize; 4]; CASES] = [
     [3, 1, 1, 0],
@@ -49,12 +49,13 @@ const SHAPES: [[usize; 4]; CASES] = [
     [12, 1, 1, 4095],
     [12, 6, 1, 20000],
     [12, 10, 1, 40960],
+    [12, 7, 15, 430000],
 ];
 
 // The most symbols of all nodes, and of the data nodes.
-const MOST: usize = 49152;
+const MOST: usize = 737280;
 
-const MOST_DATA: usize = 40960;
+const MOST_DATA: usize = 430080;
 
 // A byte of a transcript: 255 more often than others.
 fn byte(x: u64) -> u8 {

@@ -8,9 +8,9 @@ pub main-spec : {M : Type 1} → statement M
 main-spec =
     tie.close
     (tie.spec
-    (λ c. lent 49152 0)
-    (λ c. lent 40960 0)
-    (λ c. lent 49152 0)
-    (λ c. lent 40960 0)
+    (λ c. lent 737280 0)
+    (λ c. lent 430080 0)
+    (λ c. lent 737280 0)
+    (λ c. lent 430080 0)
     (λ c κs. search needs)
     (λ c. search needs))
