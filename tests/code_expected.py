@@ -13,7 +13,7 @@ P = [1, 3, 9, 27, 81, 243, 215, 131, 136, 151, 196, 74]
 SHAPES = [
     (3, 1, 1, 0), (3, 1, 1, 2), (3, 1, 1, 8), (3, 1, 15, 100), (4, 1, 3, 48), (4, 2, 2, 37), (5, 1, 1, 32),
     (5, 3, 2, 191), (6, 1, 2, 64), (6, 4, 3, 700), (7, 2, 1, 256), (7, 5, 1, 1), (8, 5, 15, 19200), (9, 1, 1, 512),
-    (9, 7, 1, 3584), (10, 4, 1, 3000), (11, 9, 2, 36864), (12, 1, 1, 4095), (12, 6, 1, 20000), (12, 10, 1, 40960),
+    (9, 7, 1, 3584), (10, 4, 1, 3000), (11, 9, 2, 36864), (12, 1, 1, 4095), (12, 6, 1, 20000), (12, 10, 1, 40960), (12, 7, 15, 430000),
 ]
 
 
@@ -189,7 +189,7 @@ class Archive:
         self.shape, self.length, self.seed = shape, length, seed
         n, k, layers = shape
         self.size = layers << n
-        self.nodes, self.back, self.text = [0] * (n * self.size), [0] * (n * self.size), [0] * length
+        self.nodes, self.back, self.text = [0] * (n * self.size), [0] * (n * self.size), stream(next_(seed), length, byte)
 
     def opened(self, nodes, symbols):
         answer, self.text = open_(*self.shape, nodes, symbols, self.length, self.text)
@@ -243,42 +243,7 @@ def say(numbers):
     print(''.join(f'{x} ' for x in numbers))
 
 
-def tried_write(shape, data, room):
-    answer, after = write(*shape, data, [7] * room)
-    return [answer, mixed_all(0, after)]
-
-
-def tried_list(shape, nodes, x, y, given, room, length):
-    symbols = ([x, y] + [0] * 62)[:given]
-    answer, after = restore(*shape, nodes, symbols, [7] * room)
-    opened, text = open_(*shape, nodes, symbols, length, [7] * room)
-    return [answer, mixed_all(0, after), opened, mixed_all(0, text)]
-
-
 def main():
-    six, huge = [6] * 9, 2 ** 64 - 1
-    say(flat_of(tried_write(*row) for row in [
-        ((2, 1, 1), six[:2], 24), ((13, 1, 1), six[:2], 24), ((2 ** 63, 1, 1), six[:2], 24), ((3, 0, 1), six[:2], 24),
-        ((3, 2, 1), six[:2], 24), ((3, huge, 1), six[:2], 24), ((3, 1, 0), six[:2], 24), ((3, 1, 16), six, 23),
-        ((3, 1, 1), six, 24), ((3, 1, 1), six[:2], 23), ((3, 1, 1), six[:2], 25), ((3, 1, 1), [], 24), ((3, 1, 1), six[:8], 24),
-    ]))
-    say(mixed_check(0, check(*shape, [x] + [0] * (room - 1))) for shape, x, room in [
-        ((3, 3, 1), 257, 23), ((3, 1, 17), 257, 24), ((3, 1, 1), 257, 23), ((3, 1, 1), 257, 24),
-        ((3, 1, 1), 65535, 24), ((3, 1, 1), 256, 24), ((3, 1, 1), 1, 24), ((3, 1, 1), 0, 24),
-    ])
-    s = (3, 1, 1)
-    say(flat_of(tried_list(*row) for row in [
-        ((0, 0, 0), [0, 1], 257, 0, 9, 5, 6), (s, [], 257, 0, 9, 5, 6), (s, [0, 1], 0, 0, 8, 24, 1), (s, [3], 257, 0, 9, 24, 1),
-        (s, [huge], 0, 0, 8, 24, 1), (s, [0], 257, 0, 9, 24, 1), (s, [0], 257, 0, 8, 23, 1), (s, [0], 257, 0, 8, 24, 9),
-        (s, [0], 65535, 0, 8, 24, 24), (s, [0], 6, 0, 8, 24, huge), (s, [0], 257, 0, 8, 1, 1), (s, [0], 256, 0, 8, 1, 1),
-        (s, [0], 255, 0, 8, 1, 1), (s, [0], 255, 1, 8, 1, 1), (s, [0], 255, 1, 8, 2, 2), (s, [0], 0, 0, 8, 0, 0),
-        (s, [1], 87, 0, 8, 1, 1), (s, [1], 253, 247, 8, 2, 2), (s, [2], 1, 4, 8, 24, 2),
-    ]))
-    four = (4, 2, 1)
-    say(flat_of(tried_list(*row) for row in [
-        (four, [1, 0], 1, 2, 32, 64, 32), (four, [0, 1], 1, 2, 32, 64, 32),
-        (four, [2, 3], 1, 2, 32, 32, 32), (four, [0, 1, 2], 257, 2, 32, 64, 32),
-    ]))
     for c, (n, k, layers, length) in enumerate(SHAPES):
         say(Archive((n, k, layers), length, c + 1).line())
 

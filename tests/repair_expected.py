@@ -201,128 +201,78 @@ def sets_of(n, k, h):
     return sorted(out)
 
 
-def line(n, k, h, cases):
-    layers = odd_part(h + 1)
+def random_sets(seed, n, k, h):
+    """Dead nodes and helpers: each node dies or helps with the chance that is left."""
+    dead, helpers = [], []
+    for i in range(n):
+        seed = (seed % 65521 * 17364 + 11) % 65521
+        x = seed % (n - i)
+        if x < h - len(dead):
+            dead.append(i)
+        elif x < h - len(dead) + k + 1 - len(helpers):
+            helpers.append(i)
+    assert len(dead) == h and len(helpers) == k + 1
+    return tuple(dead), tuple(helpers)
+
+
+def garbage(number, e):
+    return (e % 65536 * 40503 + number * 9973 + 300) % 65536
+
+
+def archive(n, k, layers, sound, seed):
+    """The nodes of a random codeword, or of any symbols."""
     size = layers << n
-    flat = random_symbols(n * 100 + k * 10 + h, k * size)
-    word = completed(n, k, layers, [flat[i * size:(i + 1) * size] for i in range(k)])
+    flat = random_symbols(seed, (k if sound else n) * size)
+    rows = [flat[i:i + size] for i in range(0, len(flat), size)]
+    return completed(n, k, layers, rows) if sound else rows
+
+
+def line(heading, n, k, h, layers, sound, seed, cases):
+    """The line of some repairs, each a number, its dead nodes and its helpers."""
+    size = layers << n
+    word = archive(n, k, layers, sound, seed)
     plans = {}
     count = digest = 0
-    for _, dead, helpers in cases:
+    for number, dead, helpers in cases:
         if dead not in plans:
             plans[dead] = Plan(n, k, layers, dead)
         wire, back = repair(plans[dead], helpers, word)
-        digest = mixed_symbols(mixed(digest, 0), wire)
         assert len(wire) == h * (k + h) * size // (h + 1)
-        count += all(back[u] == word[i] for u, i in enumerate(dead))
-    print(n, k, h, 0, count, digest, "")
+        digest = mixed_symbols(mixed(digest, 0), wire)
+        restored = dict(zip(dead, back))
+        count += all(restored[i] == word[i] for i in dead)
+        if not sound:
+            for i in range(n):
+                lost = [garbage(number, i * size + e) for e in range(size)]
+                digest = mixed_symbols(digest, restored.get(i, word[i] if i in helpers else lost))
+    factors.cache_clear()
+    inverse.cache_clear()
+    print(*heading, 0, count, digest, "")
 
 
+# Larger shapes: n, k, h, L, how many random repairs, and 1 for a codeword or 0 for any symbols.
 LARGE = [
-    (9, 5, 2, 18464), (9, 4, 4, 12356), (9, 3, 5, 9953), (9, 2, 6, 9950), (10, 7, 2, 58076), (10, 5, 4, 39094),
-    (10, 4, 5, 51665), (11, 9, 1, 177119), (11, 4, 3, 158405), (12, 10, 1, 531359), (12, 6, 3, 480815),
-    (12, 8, 3, 524147), (12, 4, 7, 287603),
+    (9, 5, 2, 3, 5, 1), (9, 4, 4, 5, 5, 1), (9, 3, 5, 3, 5, 1), (9, 2, 6, 7, 5, 1), (9, 1, 7, 1, 5, 1),
+    (10, 7, 2, 3, 4, 1), (10, 5, 4, 5, 4, 1), (10, 4, 5, 3, 4, 1), (10, 1, 8, 9, 3, 1),
+    (11, 9, 1, 1, 4, 1), (11, 4, 3, 1, 4, 1), (11, 3, 6, 7, 3, 1), (11, 1, 9, 5, 3, 1),
+    (12, 10, 1, 1, 4, 1), (12, 8, 3, 1, 4, 1), (12, 6, 3, 1, 4, 1), (12, 4, 7, 1, 4, 1), (12, 3, 8, 9, 2, 1), (12, 1, 10, 11, 2, 1),
+    (3, 1, 1, 15, 3, 1), (5, 2, 2, 15, 5, 1), (6, 1, 3, 15, 5, 1), (7, 2, 4, 15, 5, 1), (8, 2, 5, 15, 5, 1),
+    (10, 2, 7, 15, 3, 1), (11, 1, 9, 15, 2, 1), (12, 10, 1, 15, 2, 1), (12, 2, 9, 15, 2, 1),
+    (3, 1, 1, 1, 3, 0), (4, 1, 2, 3, 6, 0), (5, 1, 3, 2, 5, 0), (6, 2, 2, 6, 5, 0), (7, 1, 4, 15, 5, 0), (8, 2, 5, 6, 5, 0),
+    (9, 1, 6, 14, 3, 0), (10, 2, 7, 4, 3, 0), (11, 2, 8, 9, 2, 0), (12, 1, 10, 11, 1, 0), (12, 5, 5, 15, 1, 0),
 ]
-
-
-def large(n, k, h, number):
-    digits = [number // 3 ** i % 3 for i in range(n)]
-    dead = tuple(i for i in range(n) if digits[i] == 1)
-    helpers = tuple(i for i in range(n) if digits[i] == 2)
-    assert len(dead) == h and len(helpers) == k + 1
-    line(n, k, h, [(number, dead, helpers)])
-
-
-def apart(seed):
-    """A repair of symbols that are no codeword; each of its pieces is what the single calls give."""
-    flat = random_symbols(seed, 192)
-    nodes = [flat[i:i + 48] for i in range(0, 192, 48)]
-    dead = (0, 2)
-    wire, back = repair(Plan(4, 1, 3, dead), (1, 3), nodes)
-    nodes[0], nodes[2] = back
-    pieces = len(wire) // 16 + len(dead)
-    print(0, mixed_symbols(0, wire), mixed_symbols(0, [x for node in nodes for x in node]), *[1] * pieces, "")
-
-
-# ---- turning back
-
-def rising(n, nodes):
-    return all(0 <= i < n for i in nodes) and all(x < y for x, y in zip(nodes, nodes[1:]))
-
-
-def common_cause(n, k, layers, dead, helpers, named):
-    if not (3 <= n <= 12 and 1 <= k <= n - 2 and 1 <= layers <= 15):
-        return 1
-    h = len(dead)
-    lists = rising(n, dead) and rising(n, helpers) and 1 <= h <= n - k - 1 and len(helpers) == k + 1
-    if not (lists and named) or set(dead) & set(helpers):
-        return 2
-    return 3 if layers % odd_part(h + 1) else 0
-
-
-def cause(common, lengths, symbols):
-    return common or (4 if any(x != y for x, y in lengths) else 5 if any(x > 256 for x in symbols) else 0)
-
-
-def refused(shape, dead, helpers, helper, new, x, room):
-    """The four calls of symbols with x in front; the buffers hold sevens, or what the call gives."""
-    n, k, layers = shape
-    h, size = len(dead), layers << n
-    share = size // (h + 1)
-    given = [x] + [0] * 7
-    words = []
-
-    def told(number, buffer):
-        words.extend([number, mixed_symbols(0, buffer)])
-
-    common = common_cause(n, k, layers, dead, helpers, helper in helpers and new in dead)
-    number = cause(common, [(8, size), (room, share)], given)
-    told(number, [7] * room if number else message(Plan(n, k, layers, dead), dead.index(new), given))
-    common = common_cause(n, k, layers, dead, helpers, new in dead)
-    number = cause(common, [(8, (k + 1) * share), (2 * room, 2 * share), (0, (h - 1) * share)], given)
-    pairs = [7] * (2 * room)
-    if not number:
-        messages = [given[j * share:(j + 1) * share] for j in range(k + 1)]
-        pairs = first_step(Plan(n, k, layers, dead), helpers, dead.index(new), messages)[0]
-    told(number, pairs)
-    number = cause(common, [(8, 2 * share), (0, (h - 1) * share), (2 * room, size)], given)
-    told(number, [7] * (2 * room) if number else second_step(Plan(n, k, layers, dead), dead.index(new), given, {}))
-    nodes = [[65535] + [0] * 7, given, [0] * 8]
-    common = common_cause(n, k, layers, dead, helpers, True)
-    looked = [y for i in helpers if i < 3 for y in nodes[i]]
-    number = cause(common, [(24, n * size), (2 * room, h * (k + h) * share)], looked)
-    wire = [7] * (2 * room)
-    if not number:
-        wire, back = repair(Plan(n, k, layers, dead), helpers, nodes)
-        for u, i in enumerate(dead):
-            nodes[i] = back[u]
-    told(number, wire)
-    words.append(mixed_symbols(0, [y for node in nodes for y in node]))
-    print(*words, "")
-
-
-def causes():
-    s = (3, 1, 1)
-    refused(s, (0,), (1, 2), 1, 0, 256, 4)
-    refused((2, 1, 1), (0,), (0, 1), 0, 1, 257, 3)
-    refused(s, (0,), (0, 1), 1, 0, 257, 3)
-    refused(s, (0,), (1, 2), 1, 1, 256, 4)
-    refused(s, (0,), (1, 2), 0, 0, 256, 4)
-    refused((4, 1, 1), (0, 1), (2, 3), 2, 0, 257, 3)
-    refused(s, (0,), (1, 2), 1, 0, 257, 3)
-    refused(s, (0,), (1, 2), 1, 0, 257, 4)
 
 
 def main():
     for n in range(3, 9):
         for k in range(1, n - 1):
             for h in range(1, n - k):
-                line(n, k, h, sets_of(n, k, h))
-    for case in LARGE:
-        large(*case)
-    for seed in (1, 2, 3):
-        apart(seed)
-    causes()
+                line((n, k, h), n, k, h, odd_part(h + 1), True, n * 100 + k * 10 + h, sets_of(n, k, h))
+    for c, (n, k, h, layers, repairs, sound) in enumerate(LARGE):
+        seed = (c + 1) * 100
+        cases = [(i, *random_sets(seed + i, n, k, h)) for i in range(repairs)]
+        line((n, k, h, layers), n, k, h, layers, sound, seed, cases)
 
 
-main()
+if __name__ == '__main__':
+    main()

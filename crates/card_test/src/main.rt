@@ -4,16 +4,23 @@
 use card::Header;
 use card::Packed;
 use card::Unpacked;
-use libc::STDOUT_FILENO;
 use numbers::Number;
-use shape::Shape;
 use shape::number_of;
+use tally::Tally;
+use tally::coded;
+use tally::counted;
+use tally::front;
+use tally::front_symbols;
+use tally::nothing;
+use tally::report;
+use tally::shape_of;
+use tally::spliced_byte;
+use tally::taken;
+use tally::taken_bytes;
+use tally::taken_symbols;
 
 // "Its card for node 1: 3 1 1 1 2 253 1 247 1 0 0 0 0 0 0."
 const SAMPLE: [u8; 15] = [3, 1, 1, 1, 2, 253, 1, 247, 1, 0, 0, 0, 0, 0, 0];
-
-// Bytes that start, continue and end numbers.
-const BYTES: [u8; 6] = [0, 1, 3, 128, 129, 255];
 
 const SYMBOLS: [u16; 10] = [0, 1, 127, 128, 255, 256, 257, 16383, 16384, 65535];
 
@@ -25,73 +32,13 @@ const NODES: [usize; 5] = [0, 1, 2, 3, LARGEST];
 
 const LENGTHS: [usize; 5] = [0, 8, 9, 127, LARGEST];
 
-// The digest: a polynomial modulo a prime.
-const PRIME: u64 = 4294967291;
-
-const BASE: u64 = 1000003;
-
-struct Tally {
-    digest: u64,
-    counts: [u64; 9],
-}
-
-fn mixed(t: Tally, x: usize) -> Tally {
-    let counts = t.counts;
-    let d = t.digest;
-    Tally {
-        digest: (d % PRIME * BASE + x as u64 % PRIME) % PRIME,
-        counts,
-    }
-}
-
-fn counted(t: Tally, number: usize) -> Tally {
-    let mut counts = t.counts;
-    let digest = t.digest;
-    let i = number % 9;
-    counts[i] = counts[i] % PRIME + 1;
-    mixed(Tally { digest, counts }, number)
-}
-
-fn wide(b: u8) -> usize {
-    b as usize
-}
-
-fn wide_symbol(x: u16) -> usize {
-    x as usize
-}
-
-// The first n bytes.
-fn front(bytes: &[u8], n: usize) -> &[u8] {
-    if bytes.len() < n { bytes } else { &bytes[0..n] }
-}
-
-fn mixed_symbols(start: Tally, symbols: &[u16]) -> Tally {
-    let mut t = start;
-    let mut i = 0;
-    while i < symbols.len() {
-        t = mixed(t, wide_symbol(symbols[i]));
-        i += 1;
-    }
-    t
-}
-
-fn mixed_bytes(start: Tally, bytes: &[u8]) -> Tally {
-    let mut t = start;
-    let mut i = 0;
-    while i < bytes.len() {
-        t = mixed(t, wide(bytes[i]));
-        i += 1;
-    }
-    t
-}
-
-fn mixed_answer(t: Tally, answer: Unpacked) -> Tally {
+fn taken_answer(t: Tally, answer: Unpacked) -> Tally {
     match answer {
         Unpacked::Refused(cause) => counted(t, number_of(cause)),
         Unpacked::Header(h) => {
             let s = h.shape;
-            let a = mixed(mixed(mixed(counted(t, 0), s.n), s.k), s.layers);
-            mixed(mixed(a, h.node), h.length)
+            let a = taken(taken(taken(counted(t, 0), s.n), s.k), s.layers);
+            taken(taken(a, h.node), h.length)
         }
     }
 }
@@ -102,7 +49,7 @@ fn unpacked_into(t: Tally, card: &[u8], symbols: &mut [u16], room: usize) -> Tal
         return t;
     }
     let answer = card::unpack(card, &mut symbols[0..room]);
-    mixed_symbols(mixed_answer(t, answer), symbols)
+    taken_symbols(taken_answer(t, answer), symbols)
 }
 
 fn unpacked(t: Tally, card: &[u8], room: usize) -> Tally {
@@ -110,10 +57,10 @@ fn unpacked(t: Tally, card: &[u8], room: usize) -> Tally {
     unpacked_into(t, card, &mut symbols, room)
 }
 
-fn mixed_packed(t: Tally, answer: Packed) -> Tally {
+fn taken_packed(t: Tally, answer: Packed) -> Tally {
     match answer {
         Packed::Refused(cause) => counted(t, number_of(cause)),
-        Packed::Card(long) => mixed(counted(t, 0), long),
+        Packed::Card(long) => taken(counted(t, 0), long),
     }
 }
 
@@ -123,7 +70,7 @@ fn packed_into(t: Tally, header: Header, symbols: &[u16], card: &mut [u8], room:
         return t;
     }
     let answer = card::pack(header, symbols, &mut card[0..room]);
-    mixed_bytes(mixed_packed(t, answer), card)
+    taken_bytes(taken_packed(t, answer), card)
 }
 
 fn packed(t: Tally, header: Header, symbols: &[u16], room: usize) -> Tally {
@@ -148,10 +95,9 @@ fn changed(t: Tally, i: usize) -> Tally {
 
 // Two of the last six bytes changed: which comes first, a bad form or a bad value.
 fn twice(t: Tally, i: usize) -> Tally {
-    let bytes = BYTES;
     let mut card = SAMPLE;
-    card[9 + i % 6] = bytes[i / 6 % 6];
-    card[9 + i / 36 % 6] = bytes[i / 216 % 6];
+    card[9 + i % 6] = coded(i, 1);
+    card[9 + i / 36 % 6] = coded(i, 3);
     unpacked(t, &card, 8)
 }
 
@@ -161,34 +107,12 @@ fn rooms(t: Tally, i: usize) -> Tally {
     unpacked(t, &card, i)
 }
 
-fn digit(code: usize, place: usize) -> usize {
-    match place {
-        0 => code % 6,
-        1 => code / 6 % 6,
-        2 => code / 36 % 6,
-        _ => code / 216 % 6,
-    }
-}
-
-// Byte j of the sample with `count` bytes in place of byte `at`, or behind it where `at` is 15.
-fn spliced_byte(at: usize, count: usize, code: usize, j: usize) -> u8 {
-    let sample = SAMPLE;
-    let bytes = BYTES;
-    if j < at {
-        return sample[j % 15];
-    }
-    let d = j - at;
-    if d < count {
-        return bytes[digit(code, d) % 6];
-    }
-    sample[((d - count) % 15 + at % 15 + 1) % 15]
-}
-
 fn spliced(at: usize, count: usize, code: usize) -> [u8; 20] {
+    let sample = SAMPLE;
     let mut card = [0u8; 20];
     let mut j = 0;
     while j < card.len() {
-        card[j] = spliced_byte(at, count, code, j);
+        card[j] = spliced_byte(&sample, at, count, code, j);
         j += 1;
     }
     card
@@ -204,31 +128,42 @@ fn formed(t: Tally, i: usize) -> Tally {
     unpacked(t, front(&card, end), 8)
 }
 
+fn layers_at(i: usize) -> usize {
+    let layers = LAYERS;
+    layers[i % 5]
+}
+
+fn node_at(i: usize) -> usize {
+    let nodes = NODES;
+    nodes[i % 5]
+}
+
+fn length_at(i: usize) -> usize {
+    let lengths = LENGTHS;
+    lengths[i % 5]
+}
+
 // The sample with another header.
 fn headed(t: Tally, i: usize) -> Tally {
-    let layers = LAYERS;
-    let nodes = NODES;
-    let lengths = LENGTHS;
     let mut card = SAMPLE;
     card[0] = (i % 15) as u8;
     card[1] = (i / 15 % 13) as u8;
-    card[2] = (layers[i / 195 % 5] % 256) as u8;
-    card[3] = (nodes[i / 975 % 5] % 256) as u8;
-    card[4] = (lengths[i / 4875 % 5] % 256) as u8;
+    card[2] = (layers_at(i / 195) % 256) as u8;
+    card[3] = (node_at(i / 975) % 256) as u8;
+    card[4] = (length_at(i / 4875) % 256) as u8;
     unpacked(t, &card, 8)
 }
 
 fn read(t: Tally, bytes: &[u8], at: usize) -> Tally {
     match numbers::read_number(bytes, at) {
-        Number::Read { value, next } => mixed(mixed(counted(t, 0), value), next),
+        Number::Read { value, next } => taken(taken(counted(t, 0), value), next),
         Number::Malformed => counted(t, 6),
     }
 }
 
 // Numbers at each place of up to four bytes, and behind them.
 fn placed(t: Tally, i: usize) -> Tally {
-    let b = BYTES;
-    let bytes = [b[i % 6], b[i / 6 % 6], b[i / 36 % 6], b[i / 216 % 6]];
+    let bytes = [coded(i, 0), coded(i, 1), coded(i, 2), coded(i, 3)];
     let some = front(&bytes, i / 1296 % 5);
     let at = i / 6480 % 7;
     if at < 6 {
@@ -245,7 +180,7 @@ fn paired(t: Tally, i: usize) -> Tally {
 }
 
 fn header_of(n: usize, k: usize, layers: usize, node: usize, length: usize) -> Header {
-    let shape = Shape { n, k, layers };
+    let shape = shape_of(n, k, layers);
     Header {
         shape,
         node,
@@ -255,15 +190,16 @@ fn header_of(n: usize, k: usize, layers: usize, node: usize, length: usize) -> H
 
 // Packing under a header, with a symbol that is none and a buffer that is too short, or not.
 fn pack_headed(t: Tally, i: usize) -> Tally {
-    let layers = LAYERS;
-    let nodes = NODES;
-    let lengths = LENGTHS;
     let n = if i % 15 < 14 { i % 15 } else { LARGEST };
     let mut symbols = [256u16; 8];
     symbols[5] = (256 + i / 24375 % 2) as u16;
-    let node = nodes[i / 975 % 5];
-    let length = lengths[i / 4875 % 5];
-    let header = header_of(n, i / 15 % 13, layers[i / 195 % 5], node, length);
+    let header = header_of(
+        n,
+        i / 15 % 13,
+        layers_at(i / 195),
+        node_at(i / 975),
+        length_at(i / 4875),
+    );
     packed(t, header, &symbols, 30 + i / 48750 % 2)
 }
 
@@ -275,18 +211,10 @@ fn pack_symbols(t: Tally, i: usize) -> Tally {
     packed(t, header_of(3, 1, 1, 1, 2), &symbols, 31)
 }
 
-fn some_symbols(symbols: &[u16], n: usize) -> &[u16] {
-    if symbols.len() < n {
-        symbols
-    } else {
-        &symbols[0..n]
-    }
-}
-
 // Buffers of each size, with a symbol that is none.
 fn pack_rooms(t: Tally, i: usize) -> Tally {
     let symbols = [257u16; 10];
-    let some = some_symbols(&symbols, i % 11);
+    let some = front_symbols(&symbols, i % 11);
     packed(t, header_of(3, 1, 1, 1, 2), some, i / 11 % 49)
 }
 
@@ -306,27 +234,6 @@ fn one(group: usize, t: Tally, i: usize) -> Tally {
         9 => twice(t, i),
         _ => pack_rooms(t, i),
     }
-}
-
-fn nothing() -> Tally {
-    Tally {
-        digest: 0,
-        counts: [0u64; 9],
-    }
-}
-
-fn report(name: &[u8], t: Tally) {
-    io::write_all(STDOUT_FILENO, name);
-    io::write_all(STDOUT_FILENO, b" ");
-    io::print_decimal(STDOUT_FILENO, t.digest);
-    let counts = t.counts;
-    let mut i = 0;
-    while i < 9 {
-        io::write_all(STDOUT_FILENO, b" ");
-        io::print_decimal(STDOUT_FILENO, counts[i]);
-        i += 1;
-    }
-    io::write_all(STDOUT_FILENO, b"\n");
 }
 
 fn run(name: &[u8], group: usize, cases: usize) {
@@ -349,24 +256,47 @@ fn fill(symbols: &mut [u16]) {
     }
 }
 
-// 61,440 symbols packed, unpacked, and unpacked again with the last byte cut off.
+fn length_of(answer: Packed) -> usize {
+    match answer {
+        Packed::Card(long) => long,
+        Packed::Refused(_) => 0,
+    }
+}
+
+fn all_but_last(bytes: &[u8]) -> &[u8] {
+    if bytes.len() == 0 {
+        return bytes;
+    }
+    front(bytes, bytes.len() - 1)
+}
+
+// The length of a card of n = 12 and L = 15, whose symbols take every value.
+fn pack_largest(symbols: &mut [u16], card: &mut [u8]) -> usize {
+    fill(symbols);
+    length_of(card::pack(header_of(12, 10, 15, 11, 614400), symbols, card))
+}
+
+// A card unpacked, and unpacked again with its last byte cut off.
+fn unpacked_twice(t: Tally, card: &[u8], back: &mut [u16]) -> Tally {
+    unpacked_into(
+        unpacked_into(t, card, back, 61440),
+        all_but_last(card),
+        back,
+        61440,
+    )
+}
+
+fn largest_in(symbols: &mut [u16], card: &mut [u8], back: &mut [u16]) -> Tally {
+    let long = pack_largest(symbols, card);
+    let t = taken_bytes(taken(nothing(), long), card);
+    unpacked_twice(t, front(card, long), back)
+}
+
 fn largest() -> Tally {
     let mut symbols = [0u16; 61440];
     let mut card = [170u8; 122895];
-    let header = header_of(12, 10, 15, 11, 614400);
-    fill(&mut symbols);
-    let Packed::Card(long) = card::pack(header, &symbols, &mut card) else {
-        return nothing();
-    };
-    let a = mixed_bytes(mixed(nothing(), long), &card);
-    if long == 0 {
-        return a;
-    }
     let mut back = [7u16; 61440];
-    let whole = card::unpack(front(&card, long), &mut back);
-    let b = mixed_symbols(mixed_answer(a, whole), &back);
-    let short = card::unpack(front(&card, long - 1), &mut back);
-    mixed_symbols(mixed_answer(b, short), &back)
+    largest_in(&mut symbols, &mut card, &mut back)
 }
 
 fn main() {

@@ -4,12 +4,19 @@
 // The stored output is written by another program, from document 01 alone: python3 tests/plan_expected.py > crates/plan_test/stdout
 use libc::STDOUT_FILENO;
 use plan::Planned;
+use tally::Tally;
+use tally::byte_at;
+use tally::counted;
+use tally::digit;
+use tally::front;
+use tally::nothing;
+use tally::report;
+use tally::spliced_byte;
+use tally::taken;
+use tally::taken_bytes;
 
 // "For input bytes 4 1 3 2 0 1 2 3", and a byte behind them.
 const SAMPLE: [u8; 9] = [4, 1, 3, 2, 0, 1, 2, 3, 0];
-
-// Bytes that start, continue and end numbers.
-const BYTES: [u8; 6] = [0, 1, 3, 128, 129, 255];
 
 const LAYERS: [usize; 6] = [0, 1, 2, 3, 15, 16];
 
@@ -20,61 +27,12 @@ const WIDE: [u8; 16] = [12, 10, 15, 1, 3, 0, 1, 2, 4, 5, 6, 7, 8, 9, 10, 11];
 
 const MANY: [u8; 16] = [12, 1, 11, 10, 0, 1, 2, 3, 4, 5, 6, 7, 8, 9, 10, 11];
 
-// The digest: a polynomial modulo a prime.
-const PRIME: u64 = 4294967291;
-
-const BASE: u64 = 1000003;
-
-struct Tally {
-    digest: u64,
-    counts: [u64; 9],
-}
-
-fn mixed(t: Tally, x: usize) -> Tally {
-    let counts = t.counts;
-    let d = t.digest;
-    Tally {
-        digest: (d % PRIME * BASE + x as u64 % PRIME) % PRIME,
-        counts,
-    }
-}
-
-fn counted(t: Tally, number: usize) -> Tally {
-    let mut counts = t.counts;
-    let digest = t.digest;
-    let i = number % 9;
-    counts[i] = counts[i] % PRIME + 1;
-    mixed(Tally { digest, counts }, number)
-}
-
-fn wide(b: u8) -> usize {
-    b as usize
-}
-
-// The first n bytes.
-fn front(bytes: &[u8], n: usize) -> &[u8] {
-    if bytes.len() < n { bytes } else { &bytes[0..n] }
-}
-
-fn mixed_bytes(start: Tally, bytes: &[u8]) -> Tally {
-    let mut t = start;
-    let mut i = 0;
-    while i < bytes.len() {
-        t = mixed(t, wide(bytes[i]));
-        i += 1;
-    }
-    t
-}
-
 // The number of a text: a plan has more than one line.
 fn number_in(text: &[u8], long: usize) -> usize {
     if long != 2 {
         return 0;
     }
-    if text.len() < 1 {
-        return 0;
-    }
-    wide(text[0]) % 16
+    (byte_at(text, 0) % 16) as usize
 }
 
 // The text for an input, in the first `room` bytes of a buffer.
@@ -84,10 +42,10 @@ fn planned_into(t: Tally, input: &[u8], text: &mut [u8], room: usize) -> Tally {
     }
     match plan::plan(input, &mut text[0..room]) {
         Planned::Text(long) => {
-            let a = mixed(counted(t, number_in(text, long)), long);
-            mixed_bytes(a, front(text, long % 4096 + 4))
+            let a = taken(counted(t, number_in(text, long)), long);
+            taken_bytes(a, front(text, long % 4096 + 4))
         }
-        Planned::Refused(_) => mixed_bytes(counted(t, 4), text),
+        Planned::Refused(_) => taken_bytes(counted(t, 4), text),
     }
 }
 
@@ -105,29 +63,6 @@ fn changed_byte(i: usize, j: usize) -> u8 {
     } else {
         sample[j % 9]
     }
-}
-
-fn digit(code: usize, place: usize) -> usize {
-    match place {
-        0 => code % 6,
-        1 => code / 6 % 6,
-        2 => code / 36 % 6,
-        _ => code / 216 % 6,
-    }
-}
-
-// `count` bytes in place of byte `at` of the sample, or behind it where `at` is 8.
-fn spliced_byte(at: usize, count: usize, code: usize, j: usize) -> u8 {
-    let sample = SAMPLE;
-    let bytes = BYTES;
-    if j < at {
-        return sample[j % 9];
-    }
-    let d = j - at;
-    if d < count {
-        return bytes[digit(code, d) % 6];
-    }
-    sample[((d - count) % 9 + at % 9 + 1) % 9]
 }
 
 // Shapes and h, with the nodes in their order.
@@ -210,7 +145,7 @@ fn byte(group: usize, i: usize, j: usize) -> u8 {
     match group {
         0 => sample[j % 9],
         1 => changed_byte(i, j),
-        2 => spliced_byte(i % 9, i / 9 % 4 + 1, i / 36, j),
+        2 => spliced_byte(&sample, i % 9, i / 9 % 4 + 1, i / 36, j),
         3 => fronted_byte(i, j),
         4 => listed_byte(i, j),
         5 => ordered_byte(i, j),
@@ -254,27 +189,6 @@ fn room(t: Tally, i: usize) -> Tally {
 }
 
 // ---- groups
-
-fn nothing() -> Tally {
-    Tally {
-        digest: 0,
-        counts: [0u64; 9],
-    }
-}
-
-fn report(name: &[u8], t: Tally) {
-    io::write_all(STDOUT_FILENO, name);
-    io::write_all(STDOUT_FILENO, b" ");
-    io::print_decimal(STDOUT_FILENO, t.digest);
-    let counts = t.counts;
-    let mut i = 0;
-    while i < 9 {
-        io::write_all(STDOUT_FILENO, b" ");
-        io::print_decimal(STDOUT_FILENO, counts[i]);
-        i += 1;
-    }
-    io::write_all(STDOUT_FILENO, b"\n");
-}
 
 fn run(name: &[u8], group: usize, cases: usize) {
     let mut t = nothing();

@@ -3,32 +3,21 @@
 use card::Header;
 use card::Packed;
 use card::Unpacked;
-use libc::STDOUT_FILENO;
-use shape::Answer;
 use shape::Shape;
 use shape::number_of;
-
-// 0, or the number of the cause.
-fn answer_number(answer: Answer) -> usize {
-    match answer {
-        Answer::Done => 0,
-        Answer::Refused(cause) => number_of(cause),
-    }
-}
-
-fn print_number(number: usize) {
-    io::print_decimal(STDOUT_FILENO, number as u64);
-    io::write_all(STDOUT_FILENO, b" ");
-}
-
-fn end_line() {
-    io::write_all(STDOUT_FILENO, b"\n");
-}
+use tally::end_line;
+use tally::number;
+use tally::print;
+use tally::shape_of;
+use tally::wide;
+use tally::wide_byte;
+ghost use mathlib.Core.Path.{_≡_};
+ghost use lib.ListN.{length};
 
 fn print_symbols(symbols: &[u16]) {
     let mut i = 0;
     while i < symbols.len() {
-        print_number(symbols[i] as usize);
+        print(wide(symbols[i]));
         i += 1;
     }
     end_line();
@@ -37,7 +26,7 @@ fn print_symbols(symbols: &[u16]) {
 fn print_bytes(bytes: &[u8]) {
     let mut i = 0;
     while i < bytes.len() {
-        print_number(bytes[i] as usize);
+        print(wide_byte(bytes[i]));
         i += 1;
     }
     end_line();
@@ -45,22 +34,27 @@ fn print_bytes(bytes: &[u8]) {
 
 // "n=3, k=1, L=1".
 fn tiny() -> Shape {
-    Shape {
-        n: 3,
-        k: 1,
-        layers: 1,
-    }
+    shape_of(3, 1, 1)
 }
 
 // The archive of some bytes, and what opens from its node 2.
 fn print_written(bytes: &[u8], opened: &mut [u8]) {
     let mut nodes = [9u16; 24];
-    print_number(answer_number(transcript::write(tiny(), bytes, &mut nodes)));
+    print(number(transcript::write(tiny(), bytes, &mut nodes)));
     print_symbols(&nodes);
     let list = [2];
     let answer = transcript::open(tiny(), &list, &nodes[16..24], bytes.len(), opened);
-    print_number(answer_number(answer));
+    print(number(answer));
     print_bytes(opened);
+}
+
+// The archive of the bytes 3 6.
+fn sample() -> [u16; 24]
+    ensures { λ r. ⌜ length r ≡ 24 ⌝ }
+{
+    let mut nodes = [0u16; 24];
+    transcript::write(tiny(), &[3u8, 6], &mut nodes);
+    nodes
 }
 
 // Node 0 is dead: no symbol of it is to be read.
@@ -72,23 +66,23 @@ fn lose(size: usize, nodes: &mut [u16]) {
     }
 }
 
+fn print_repair(s: Shape, dead: &[usize], helpers: &[usize], nodes: &mut [u16], wire: &mut [u16]) {
+    print(number(repair::repair(s, dead, helpers, nodes, wire)));
+}
+
 // The archive of the bytes 3 6 with node 0 dead, repaired by nodes 1 and 2.
 fn print_repaired() {
-    let mut nodes = [0u16; 24];
-    transcript::write(tiny(), &[3u8, 6], &mut nodes);
+    let mut nodes = sample();
     lose(8, &mut nodes);
     let mut wire = [9u16; 8];
-    let dead = [0];
-    let helpers = [1, 2];
-    print_number(answer_number(repair::repair(tiny(), &dead, &helpers, &mut nodes, &mut wire)));
+    print_repair(tiny(), &[0], &[1, 2], &mut nodes, &mut wire);
     print_symbols(&wire);
     print_symbols(&nodes);
 }
 
 // Its card for node 1.
 fn print_card() {
-    let mut nodes = [0u16; 24];
-    transcript::write(tiny(), &[3u8, 6], &mut nodes);
+    let nodes = sample();
     let shape = tiny();
     let header = Header {
         shape,
@@ -97,8 +91,8 @@ fn print_card() {
     };
     let mut card = [9u8; 31];
     match card::pack(header, &nodes[8..16], &mut card) {
-        Packed::Card(long) => print_number(long),
-        Packed::Refused(cause) => print_number(number_of(cause)),
+        Packed::Card(long) => print(long as u64),
+        Packed::Refused(cause) => print(number_of(cause) as u64),
     }
     print_bytes(&card);
 }
@@ -108,8 +102,8 @@ fn print_unpacked(b: u8, c: u8) {
     let bytes = [3, 1, 1, 1, 2, b, c, 0, 0, 0, 0, 0, 0, 0];
     let mut symbols = [9u16; 8];
     match card::unpack(&bytes, &mut symbols) {
-        Unpacked::Header(header) => print_number(header.length),
-        Unpacked::Refused(cause) => print_number(number_of(cause)),
+        Unpacked::Header(header) => print(header.length as u64),
+        Unpacked::Refused(cause) => print(number_of(cause) as u64),
     }
     print_symbols(&symbols);
 }
@@ -119,29 +113,15 @@ fn print_no_transcript() {
     let mut opened = [9u8; 1];
     let list = [1];
     let answer = transcript::open(tiny(), &list, &[87u16, 0, 0, 0, 0, 0, 0, 0], 1, &mut opened);
-    print_number(answer_number(answer));
+    print(number(answer));
     print_bytes(&opened);
 }
 
-// Two dead nodes of three, and of four with one layer and with three.
-fn print_lost() {
-    let dead = [0, 1];
+// Nodes 0 and 1 dead, in buffers that fit n = 4 and L = 3.
+fn print_lost(s: Shape, helpers: &[usize]) {
     let mut nodes = [0u16; 192];
     let mut wire = [0u16; 96];
-    let four = Shape {
-        n: 4,
-        k: 1,
-        layers: 1,
-    };
-    let more = Shape {
-        n: 4,
-        k: 1,
-        layers: 3,
-    };
-    print_number(answer_number(repair::repair(tiny(), &dead, &[2], &mut nodes, &mut wire)));
-    print_number(answer_number(repair::repair(four, &dead, &[2, 3], &mut nodes, &mut wire)));
-    print_number(answer_number(repair::repair(more, &dead, &[2, 3], &mut nodes, &mut wire)));
-    end_line();
+    print_repair(s, &[0, 1], helpers, &mut nodes, &mut wire);
 }
 
 fn main() {
@@ -157,5 +137,8 @@ fn main() {
     print_unpacked(128, 0);
     print_unpacked(128, 2);
     print_no_transcript();
-    print_lost();
+    print_lost(tiny(), &[2]);
+    print_lost(shape_of(4, 1, 1), &[2, 3]);
+    print_lost(shape_of(4, 1, 3), &[2, 3]);
+    end_line();
 }

@@ -1,20 +1,16 @@
 -- `code_test::gather` meets its contract. Assumes nothing.
 use mathlib.Core.Path.{_≡_}
 use Prim.Native.Nat.{_≤_, _-_}
-use native.Mathlib.Omega.{arith}
-use lib.ListN.{length, length-set}
+use lib.ListN.{length}
 use borrow.Author.Needs.{needs}
 use Rattle.code_test.proofs.gather.Statement.{statement}
 use Rattle.code_test.proofs.gather.Tie as tie
 
 abbrev Inv-loop : tie.InvT-loop
-Inv-loop list places nodes symbols₀ e₀ symbols e = (e ≤ length symbols₀) × (length symbols ≡ length symbols₀)
+Inv-loop list nodes symbols₀ places e₀ symbols e = (e ≤ length symbols₀) × (length symbols ≡ length symbols₀)
 
 abbrev μ-loop : tie.MeasureT-loop
-μ-loop list places nodes symbols₀ e₀ symbols e = length symbols₀ - e
-
-loop-again : tie.Need-loop-again Inv-loop μ-loop
-loop-again c = (omega arith, simp length-set (c .before .before .loop .inv .1))
+μ-loop list nodes symbols₀ places e₀ symbols e = length symbols₀ - e
 
 pub gather-spec : {M : Type 1} → statement M
 gather-spec =
@@ -22,12 +18,13 @@ gather-spec =
     (tie.spec
     Inv-loop
     μ-loop
+    (λ c κs. search needs)
     (λ c. search needs)
     (λ c κs. search needs)
     (λ c. search needs)
     (λ c. search needs)
     (λ c. search needs)
     (λ c. search needs)
-    loop-again
+    (λ c. search needs)
     (λ c. search needs)
     (λ c. search needs))

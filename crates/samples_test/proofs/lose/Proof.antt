@@ -6,8 +6,6 @@ use lib.ListN.{length, length-set}
 use borrow.Author.Needs.{needs}
 use Rattle.samples_test.proofs.lose.Statement.{statement}
 use Rattle.samples_test.proofs.lose.Tie as tie
-use Rattle.samples_test.proofs.lose.Reads as reads
-use Rattle.samples_test.proofs.lose.Lts as lts
 
 abbrev Inv-loop : tie.InvT-loop
 Inv-loop size nodes₀ i₀ i-end nodes i = (i ≤ length nodes₀) × (i-end ≡ length nodes₀) × (length nodes ≡ length nodes₀)
@@ -15,27 +13,9 @@ Inv-loop size nodes₀ i₀ i-end nodes i = (i ≤ length nodes₀) × (i-end �
 abbrev μ-loop : tie.MeasureT-loop
 μ-loop size nodes₀ i₀ i-end nodes i = length nodes₀ - i
 
-loop-holds : tie.Need-loop-holds Inv-loop μ-loop
-loop-holds c = search needs
-
-mul-nodes : tie.Need-mul-nodes Inv-loop μ-loop
-mul-nodes c = search needs
-
-slice-write-nodes : tie.Need-slice-write-nodes Inv-loop μ-loop
-slice-write-nodes c = search needs
-
-add-i : tie.Need-add-i Inv-loop μ-loop
-add-i c = search needs
-
-loop-less : tie.Need-loop-less Inv-loop μ-loop
-loop-less c = search needs
-
 loop-again : tie.Need-loop-again Inv-loop μ-loop
 loop-again c =
     ⊎-elim (λ w. (search needs, refl, ap length (w .1) ∙ simp length-set (c .before .before .loop .inv .2))) (λ w. (search needs, refl, ap length (w .1) ∙ c .before .before .loop .inv .2)) (c .if1 .came)
-
-same-length : tie.Need-same-length Inv-loop μ-loop
-same-length c = search needs
 
 returns : tie.Need-returns Inv-loop μ-loop
 returns c = tt
@@ -46,11 +26,11 @@ lose-spec =
     (tie.spec
     Inv-loop
     μ-loop
-    loop-holds
-    mul-nodes
-    slice-write-nodes
-    add-i
-    loop-less
+    (λ c. search needs)
+    (λ c. search needs)
+    (λ c. search needs)
+    (λ c. search needs)
+    (λ c. search needs)
     loop-again
-    same-length
+    (λ c. search needs)
     returns)

@@ -1,0 +1,2 @@
+-- The laws of `tally` that the test programs cite.
+pub mod Buffers
