@@ -26,42 +26,35 @@ fn wide(b: u8) -> usize
     b as usize
 }
 
-// The number of at most `groups` groups at a place, least group first.
-fn read_groups(bytes: &[u8], at: usize, groups: usize) -> Number
-    requires { ⌜ groups ≤ mostGroups ⌝ }
-    ensures { λ r. ⌜ r ≡ numberAt groups (now (bytes .entry)) at ⌝ }
-{
-    if groups == 0 {
-        return Number::Malformed;
-    }
-    if bytes.len() <= at {
-        return Number::Malformed;
-    }
-    let b = wide(bytes[at]);
-    if b < GROUP_VALUES {
-        return Number::Read {
-            value: b,
-            next: at + 1,
-        };
-    }
-    let Number::Read { value, next } = read_groups(bytes, at + 1, groups - 1) else {
-        return Number::Malformed;
-    };
-    // A last group of 0 is not the shortest form.
-    if value == 0 {
-        return Number::Malformed;
-    }
-    Number::Read {
-        value: b - GROUP_VALUES + GROUP_VALUES * value,
-        next,
-    }
-}
-
-// The number at a place, any place.
+// The number at a place, any place: least group first, each worth GROUP_VALUES times the one before it.
 pub fn read_number(bytes: &[u8], at: usize) -> Number
     ensures { λ r. ⌜ r ≡ numberAt mostGroups (now (bytes .entry)) at ⌝ }
 {
-    read_groups(bytes, at, MOST_GROUPS)
+    let mut value = 0;
+    let mut worth = 1;
+    let mut place = at;
+    let mut groups = 0;
+    while groups < MOST_GROUPS {
+        if bytes.len() <= place {
+            return Number::Malformed;
+        }
+        let b = wide(bytes[place]);
+        place += 1;
+        if b < GROUP_VALUES {
+            // A last group of 0 is not the shortest form.
+            if (0 < groups) & (b == 0) {
+                return Number::Malformed;
+            }
+            return Number::Read {
+                value: value + worth * b,
+                next: place,
+            };
+        }
+        value += worth * (b - GROUP_VALUES);
+        worth *= GROUP_VALUES;
+        groups += 1;
+    }
+    Number::Malformed
 }
 
 // Writes a number at a place; the place behind it.
