@@ -1,14 +1,16 @@
 -- A number at a place of some bytes, group by group: what stands at the place, and what the groups in front of it make of the number there.
-use mathlib.Core.Path.{_≡_, refl, sym, ap, _∙_}
+use mathlib.Core.Path.{_≡_, refl, sym, ap, ap₂, _∙_}
 use mathlib.Core.Bool.{_&&_, cond, and-false}
+use mathlib.Core.Logic.{_⊎_, inl, inr}
 use mathlib.Core.List.{List, []}
-use Prim.Native.Nat.{ℕ, zero, suc, _+_, _*_, _-_, _^_, _≤_, _<_}
+use Prim.Native.Nat.{ℕ, zero, suc, _+_, _*_, _-_, _/_, _%_, _^_, _≤_, _<_}
 use native.Mathlib.Nat.{pow-suc, mul-le-mul-left, pow-le-pow-right}
 use native.Mathlib.Decide.{ℕ-discrete}
 use native.Mathlib.Omega.{arith}
 use borrow.Author.Tests.{lt-ltb, eq-eqb, ne-eqb}
 use lib.Dec.{ltb, eqb}
 use lib.ListN.{length, getD, drop, drop-of-length-le, length-drop}
+use Rattle.lists.proofs.Tests.{below-or-not, cond-false}
 use Rattle.lists.proofs.Scans.{drop-next}
 use Rattle.shape.specs.Shape.{byteValues}
 use Rattle.numbers.specs.declared.Number.{Number}
@@ -67,7 +69,7 @@ read-none zero = refl
 read-none (suc groups) = refl
 
 -- the bytes of a number end here
-at-cut : (groups : ℕ) (bytes : List ℕ) (at : ℕ) → length bytes ≤ at → numberAt groups bytes at ≡ Malformed
+pub at-cut : (groups : ℕ) (bytes : List ℕ) (at : ℕ) → length bytes ≤ at → numberAt groups bytes at ≡ Malformed
 unfolding numberAt placed
 at-cut groups bytes at h = rw (drop-of-length-le bytes h, read-none groups)
 
@@ -99,8 +101,13 @@ module _ {bytes : List ℕ} {at low worth place groups : ℕ} (r : Reading bytes
   -- with any byte for a group, the number is small
   pub reading-fits : (b : ℕ) → b < byteValues → low + worth * b < groupValues ^ mostGroups * byteValues
   reading-fits b h =
-      omega (arith, r .power, r .small, pow-le-pow-right {n = groupValues} (omega arith) {i = groups} {j = mostGroups} (r .few),
-      mul-le-mul-left {m = b} {n = byteValues - 1} worth (omega arith))
+      omega (
+        arith,
+        r .power,
+        r .small,
+        pow-le-pow-right {n = groupValues} (omega arith) {i = groups} {j = mostGroups} (r .few),
+        mul-le-mul-left {m = b} {n = byteValues - 1} worth (omega arith),
+      )
 
   pub reading-long : mostGroups ≤ groups → Malformed ≡ numberAt mostGroups bytes at
   reading-long h = sym (r .whole ∙ rw (none) (unfold numberAt readNumber placed continued in refl))
@@ -130,3 +137,24 @@ module _ {bytes : List ℕ} {at low worth place groups : ℕ} (r : Reading bytes
       small = omega (arith, r .small, mul-le-mul-left {m = b - groupValues} {n = groupValues - 1} worth (omega arith));
       whole = same ∙ at-more _ bytes place inside groups low (omega arith) ∙ rw (← here, ← (r .power));
     }
+
+-- a number of one group, or of two: `more` is 1 where there are two
+pub read-two : (bytes : List ℕ) (at b c more high : ℕ) → at + 1 < length bytes → b ≡ getD bytes at 0 → c ≡ getD bytes (at + 1) 0 → b < byteValues
+    → more ≡ b / groupValues → high ≡ more * c → more ≤ high → high < groupValues
+    → Read (b % groupValues + groupValues * high) (at + 1 + more) ≡ numberAt mostGroups bytes at
+read-two bytes at b c more high inside here there small m h low lead = go (below-or-not b groupValues)
+  where
+    first : Reading bytes at 0 1 at 0
+    first = reading-first bytes at
+
+    go : (b < groupValues) ⊎ (groupValues ≤ b) → Read (b % groupValues + groupValues * high) (at + 1 + more) ≡ numberAt mostGroups bytes at
+    go (inl l) =
+        let none : more ≡ 0 = omega arith in
+        let e : high ≡ 0 * c = h ∙ ap (λ x. x * c) none in
+        ap₂ Read (omega arith) (omega arith) ∙ reading-last first (omega arith) (omega arith) b here l
+    go (inr l) =
+        let one : more ≡ 1 = omega arith in
+        let e : high ≡ 1 * c = h ∙ ap (λ x. x * c) one in
+        let second = reading-next first (omega arith) (omega arith) b here l small in
+        ap₂ Read (omega arith) (omega arith) ∙ sym (cond-false _ _ _ (ne-eqb c 0 (omega arith)))
+        ∙ reading-last second inside (omega arith) c there (omega arith)

@@ -26,8 +26,8 @@ fn wide(b: u8) -> usize
     b as usize
 }
 
-// The number at a place, any place: least group first, each worth GROUP_VALUES times the one before it.
-pub fn read_number(bytes: &[u8], at: usize) -> Number
+// The number at a place, group by group: least first, each worth GROUP_VALUES times the one before it.
+fn read_groups(bytes: &[u8], at: usize) -> Number
     ensures { λ r. ⌜ r ≡ numberAt mostGroups (now (bytes .entry)) at ⌝ }
 {
     let mut value = 0;
@@ -55,6 +55,29 @@ pub fn read_number(bytes: &[u8], at: usize) -> Number
         groups += 1;
     }
     Number::Malformed
+}
+
+// The number at a place, any place. Symbols have one or two groups, and which comes next nothing foretells: a number of one
+// or two is read without a branch between them.
+pub fn read_number(bytes: &[u8], at: usize) -> Number
+    ensures { λ r. ⌜ r ≡ numberAt mostGroups (now (bytes .entry)) at ⌝ }
+{
+    if bytes.len() <= at {
+        return Number::Malformed;
+    }
+    let next = at + 1;
+    if next < bytes.len() {
+        let b = wide(bytes[at]);
+        let more = b / GROUP_VALUES; // 1 where a second group follows, else 0
+        let high = more * wide(bytes[next]);
+        if (more <= high) & (high < GROUP_VALUES) {
+            return Number::Read {
+                value: b % GROUP_VALUES + GROUP_VALUES * high,
+                next: next + more,
+            };
+        }
+    }
+    read_groups(bytes, at)
 }
 
 // Writes a number at a place; the place behind it.
