@@ -68,7 +68,7 @@ unfolding readNumber
 read-none zero = refl
 read-none (suc groups) = refl
 
--- the bytes of a number end here
+-- at a place: no byte, a last group, another
 pub at-cut : (groups : ℕ) (bytes : List ℕ) (at : ℕ) → length bytes ≤ at → numberAt groups bytes at ≡ Malformed
 unfolding numberAt placed
 at-cut groups bytes at h = rw (drop-of-length-le bytes h, read-none groups)
@@ -87,7 +87,7 @@ module _ (groups : ℕ) (bytes : List ℕ) (at : ℕ) (inside : at < length byte
       rw (drop-next bytes at 0 inside, read-more groups (getD bytes at 0) (drop (at + 1) bytes) h)
       (continued-more read low (getD bytes at 0 - groupValues) (length bytes) (readNumber groups (drop (at + 1) bytes)))
 
--- where reading stands in the number at a place: behind so many groups, of the value `low`; a group here is worth `worth`
+-- where reading stands in the number at a place: `groups` groups were read, of the value `low`; the next stands at `place` and is worth `worth`
 pub record Reading (bytes : List ℕ) (at low worth place groups : ℕ) : Type 0 where
   pub few : groups ≤ mostGroups
   pub power : worth ≡ groupValues ^ groups
@@ -109,22 +109,20 @@ module _ {bytes : List ℕ} {at low worth place groups : ℕ} (r : Reading bytes
         mul-le-mul-left {m = b} {n = byteValues - 1} worth (omega arith),
       )
 
+  -- no number: too many groups, or cut short
   pub reading-long : mostGroups ≤ groups → Malformed ≡ numberAt mostGroups bytes at
-  reading-long h = sym (r .whole ∙ rw (none) (unfold numberAt readNumber placed continued in refl))
-    where
-      none : mostGroups - groups ≡ 0
-      none = omega arith
+  reading-long h = let none : mostGroups - groups ≡ 0 = omega arith in sym (r .whole ∙ rw none (unfold numberAt readNumber placed continued in refl))
 
   pub reading-cut : length bytes ≤ place → Malformed ≡ numberAt mostGroups bytes at
   reading-cut h = sym (r .whole ∙ ap (continued groups low) (at-cut (mostGroups - groups) bytes place h) ∙ continued-bad groups low)
 
   module _ (inside : place < length bytes) (more : groups < mostGroups) (b : ℕ) (here : b ≡ getD bytes place 0) where
-    left : mostGroups - groups ≡ suc (mostGroups - (groups + 1))
-    left = omega arith
-
     same : numberAt mostGroups bytes at ≡ continued groups low (numberAt (suc (mostGroups - (groups + 1))) bytes place)
-    same = r .whole ∙ ap (λ g. continued groups low (numberAt g bytes place)) left
+    same =
+        let left : mostGroups - groups ≡ suc (mostGroups - (groups + 1)) = omega arith in
+        r .whole ∙ ap (λ g. continued groups low (numberAt g bytes place)) left
 
+    -- the last group, and another
     pub reading-last : b < groupValues
         → cond (ltb 0 groups && eqb b 0) Malformed (Read (low + worth * b) (place + 1)) ≡ numberAt mostGroups bytes at
     unfolding continued
