@@ -70,7 +70,7 @@ pub fn read_number(bytes: &[u8], at: usize) -> Number
         let b = wide(bytes[at]);
         let more = b / GROUP_VALUES; // 1 where a second group follows, else 0
         let high = more * wide(bytes[next]);
-        if (more <= high) & (high < GROUP_VALUES) {
+        if more <= high && high < GROUP_VALUES {
             return Number::Read {
                 value: b % GROUP_VALUES + GROUP_VALUES * high,
                 next: next + more,

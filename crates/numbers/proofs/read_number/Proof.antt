@@ -4,8 +4,7 @@ use Prim.Native.Nat.{_+_, _*_, _/_, _≤_, _<_}
 use native.Mathlib.Nat.{mul-le-mul}
 use native.Mathlib.Omega.{arith}
 use borrow.Author.Needs.{needs}
-use borrow.Author.Tests.{leb-true, ltb-true}
-use Rattle.lists.proofs.Tests.{both}
+use borrow.Author.Tests.{ltb-true}
 use Rattle.shape.specs.Shape.{byteValues}
 use Rattle.numbers.specs.Numbers.{mostGroups, groupValues}
 use Rattle.numbers.proofs.Groups.{at-cut, read-two}
@@ -26,17 +25,13 @@ mul-high c =
     let b : c .wide2 .result ≤ byteValues = omega (arith, c .before .shared-slice-known3 .given (at + 1), c .wide2 .ensures) in
     omega (arith, mul-le-mul a b)
 
--- the tests of the second group
-tests : (c : tie.Then3) →
-    let more = c .before .before .before .wide .result / groupValues in
-    let high = more * c .before .wide2 .result in
-    (more ≤ high) × (high < groupValues)
-tests c = let t = both _ _ (c .if3 .taken) in (leb-true _ _ (t .0), ltb-true _ _ (t .1))
+high-small : (c : tie.Then4) → c .before .before .before .before .wide .result / groupValues * c .before .before .wide2 .result < groupValues
+high-small c = ltb-true _ groupValues (c .if4 .taken)
 
 returns-2 : tie.Need-returns-2
 returns-2 c =
-    let w = c .before .before .before in
-    read-two _ _ _ _ _ _ (omega arith) (w .wide .ensures) (c .before .wide2 .ensures) (byte w) refl refl (tests c .0) (tests c .1)
+    let w = c .before .before .before .before in
+    read-two _ _ _ _ _ _ (omega arith) (w .wide .ensures) (c .before .before .wide2 .ensures) (byte w) refl refl (omega arith) (high-small c)
 
 pub read-number-spec : {M : Type 1} → statement M
 read-number-spec =
@@ -49,8 +44,8 @@ read-number-spec =
     (λ c. search needs)
     (λ c κs. search needs)
     mul-high
-    (λ c. omega (arith, tests c .1))
-    (λ c. omega (arith, tests c .1))
+    (λ c. omega (arith, high-small c))
+    (λ c. omega (arith, high-small c))
     (λ c. search needs)
     returns-2
     (λ c κs. search needs)
