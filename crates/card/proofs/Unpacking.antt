@@ -52,7 +52,7 @@ numbers-behind (suc count) bytes at vs rest e = go (readNumber mostGroups (drop 
         next broken d′ q = absurd (unfold andThen in let z : _≡_ {A = ℕ} 0 1 = cc in omega arith)
         next (values us t) d′ q =
             let same : t ≡ rest = unfold andThen in cc in
-            rw (← same) (ih (length bytes - length r) us t (ap (readNumbers count) (sym (read-behind mostGroups bytes at v r d .behind)) ∙ d′))
+            rw (← same) (ih (length bytes - length r) us t (ap (readNumbers count) (sym (read-behind mostGroups bytes at v r d)) ∙ d′))
 
 -- ---- the promise
 

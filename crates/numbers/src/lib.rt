@@ -26,42 +26,58 @@ fn wide(b: u8) -> usize
     b as usize
 }
 
-// The number of at most `groups` groups at a place, least group first.
-fn read_groups(bytes: &[u8], at: usize, groups: usize) -> Number
-    requires { ⌜ groups ≤ mostGroups ⌝ }
-    ensures { λ r. ⌜ r ≡ numberAt groups (now (bytes .entry)) at ⌝ }
+// The number at a place, group by group: least first, each worth GROUP_VALUES times the one before it.
+fn read_groups(bytes: &[u8], at: usize) -> Number
+    ensures { λ r. ⌜ r ≡ numberAt mostGroups (now (bytes .entry)) at ⌝ }
 {
-    if groups == 0 {
-        return Number::Malformed;
+    let mut value = 0;
+    let mut worth = 1;
+    let mut place = at;
+    let mut groups = 0;
+    while groups < MOST_GROUPS {
+        if bytes.len() <= place {
+            return Number::Malformed;
+        }
+        let b = wide(bytes[place]);
+        place += 1;
+        if b < GROUP_VALUES {
+            // A last group of 0 is not the shortest form.
+            if (0 < groups) & (b == 0) {
+                return Number::Malformed;
+            }
+            return Number::Read {
+                value: value + worth * b,
+                next: place,
+            };
+        }
+        value += worth * (b - GROUP_VALUES);
+        worth *= GROUP_VALUES;
+        groups += 1;
     }
-    if bytes.len() <= at {
-        return Number::Malformed;
-    }
-    let b = wide(bytes[at]);
-    if b < GROUP_VALUES {
-        return Number::Read {
-            value: b,
-            next: at + 1,
-        };
-    }
-    let Number::Read { value, next } = read_groups(bytes, at + 1, groups - 1) else {
-        return Number::Malformed;
-    };
-    // A last group of 0 is not the shortest form.
-    if value == 0 {
-        return Number::Malformed;
-    }
-    Number::Read {
-        value: b - GROUP_VALUES + GROUP_VALUES * value,
-        next,
-    }
+    Number::Malformed
 }
 
-// The number at a place, any place.
+// The number at a place, any place. Symbols have one or two groups, and which comes next nothing foretells: a number of one
+// or two is read without a branch between them.
 pub fn read_number(bytes: &[u8], at: usize) -> Number
     ensures { λ r. ⌜ r ≡ numberAt mostGroups (now (bytes .entry)) at ⌝ }
 {
-    read_groups(bytes, at, MOST_GROUPS)
+    if bytes.len() <= at {
+        return Number::Malformed;
+    }
+    let next = at + 1;
+    if next < bytes.len() {
+        let b = wide(bytes[at]);
+        let more = b / GROUP_VALUES; // 1 where a second group follows, else 0
+        let high = more * wide(bytes[next]);
+        if more <= high && high < GROUP_VALUES {
+            return Number::Read {
+                value: b % GROUP_VALUES + GROUP_VALUES * high,
+                next: next + more,
+            };
+        }
+    }
+    read_groups(bytes, at)
 }
 
 // Writes a number at a place; the place behind it.
