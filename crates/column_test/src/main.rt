@@ -102,7 +102,7 @@ fn completed(
     if shape::nodes_bad(points.len(), list.len(), list) {
         return 0;
     }
-    let outcome = column::complete(q, points, list, values, column);
+    let outcome = completion::complete(q, points, list, values, column);
     match outcome {
         Outcome::Solved => digested(digest, column),
         Outcome::ZeroDivisor => 0,

@@ -10,7 +10,7 @@ use code::point;
 use column::ENTRIES;
 use column::Outcome;
 use column::Solution;
-use column::complete;
+use completion::complete;
 use field::subtract;
 use shape::batch;
 use shape::size;

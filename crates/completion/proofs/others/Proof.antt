@@ -1,4 +1,4 @@
--- `column::others` meets its contract. Assumes nothing.
+-- `completion::others` meets its contract. Assumes nothing.
 use mathlib.Core.Path.{_≡_, refl, ap, _∙_}
 use Prim.Native.Nat.{_+_, _-_, _≤_, _<_}
 use native.Mathlib.Omega.{arith}
@@ -8,10 +8,10 @@ use Rattle.lists.proofs.Others.{others-length}
 use Rattle.lists.specs.Lists.{outside, picked, others}
 use Rattle.lists.proofs.Buffers.{Written, written-none, written-skip, written-more, onto-front}
 use Rattle.lists.proofs.Pointers.{Along, along-none, along-hit, along-miss, hit-outside, miss-outside, map-self}
 use Rattle.column.specs.Solving.{mostEntries}
 use borrow.Author.Needs.{needs}
-use Rattle.column.proofs.others.Statement.{statement}
-use Rattle.column.proofs.others.Tie as tie
+use Rattle.completion.proofs.others.Statement.{statement}
+use Rattle.completion.proofs.others.Tie as tie
 
 abbrev Inv-loop : tie.InvT-loop
 Inv-loop m list out₀ j₀ at₀ i₀ out j at i =

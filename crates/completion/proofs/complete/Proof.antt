@@ -6,9 +6,9 @@ use borrow.Author.Needs.{needs}
 use lib.ListN.{length, take, length-take}
 use Rattle.lists.specs.Lists.{others}
 use Rattle.lists.proofs.Others.{rising-fits}
 use Rattle.column.proofs.Completing.{rest-length, rest-rising, whole-by}
-use Rattle.column.proofs.complete.Statement.{statement}
-use Rattle.column.proofs.complete.Tie as tie
+use Rattle.completion.proofs.complete.Statement.{statement}
+use Rattle.completion.proofs.complete.Tie as tie
 
 -- the listed entries are entries
 fits : (c : tie.Start) → length (c .args .list .now) ≤ length (c .args .points .now)

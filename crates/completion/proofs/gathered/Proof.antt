@@ -1,15 +1,15 @@
--- `column::gathered` meets its contract. Assumes nothing.
+-- `completion::gathered` meets its contract. Assumes nothing.
 use mathlib.Core.Path.{_≡_, refl}
 use Prim.Native.Nat.{ℕ, _-_, _≤_, _<_}
 use native.Mathlib.Omega.{arith}
 use lib.ListN.{length, getD, length-set}
 use Rattle.lists.proofs.Stores.{stored-more}
 use Rattle.column.specs.Solving.{mostEntries, element}
 use Rattle.lists.proofs.Members.{rising-below}
 use Rattle.lists.proofs.Others.{rising-fits}
 use borrow.Author.Needs.{needs}
-use Rattle.column.proofs.gathered.Statement.{statement}
-use Rattle.column.proofs.gathered.Tie as tie
+use Rattle.completion.proofs.gathered.Statement.{statement}
+use Rattle.completion.proofs.gathered.Tie as tie
 
 abbrev Inv-loop : tie.InvT-loop
 Inv-loop points list out₀ j₀ j-end out j =

@@ -6,11 +6,11 @@ use native.Mathlib.Omega.{arith}
 use lib.ListN.{length, length-set}
 use Rattle.lists.proofs.Stores.{stored-more}
 use Rattle.field.specs.Residues.{minus}
 use Rattle.column.specs.Column.{parity}
 use Rattle.column.specs.Solving.{mostEntries, element}
 use borrow.Author.Needs.{needs}
-use Rattle.column.proofs.right_side.Statement.{statement}
-use Rattle.column.proofs.right_side.Tie as tie
+use Rattle.completion.proofs.right_side.Statement.{statement}
+use Rattle.completion.proofs.right_side.Tie as tie
 
 -- the right side of equation t
 abbrev lacking : ℕ → List ℕ → List ℕ → ℕ → ℕ

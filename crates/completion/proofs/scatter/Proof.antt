@@ -1,4 +1,4 @@
--- `column::scatter` meets its contract. Assumes nothing.
+-- `completion::scatter` meets its contract. Assumes nothing.
 use mathlib.Core.Path.{_≡_, refl}
 use Prim.Native.Nat.{ℕ, _-_, _≤_, _<_}
 use native.Mathlib.Omega.{arith}
@@ -7,10 +7,10 @@ use mathlib.Core.Bool.{false}
 use Rattle.lists.specs.Lists.{member}
 use Rattle.lists.proofs.Members.{rising-below}
 use Rattle.lists.proofs.Stores.{listed-more, unlisted-more}
 use Rattle.column.specs.Solving.{element}
 use borrow.Author.Needs.{needs}
-use Rattle.column.proofs.scatter.Statement.{statement}
-use Rattle.column.proofs.scatter.Tie as tie
+use Rattle.completion.proofs.scatter.Statement.{statement}
+use Rattle.completion.proofs.scatter.Tie as tie
 
 abbrev Inv-loop : tie.InvT-loop
 Inv-loop list values column₀ j₀ j-end column j =

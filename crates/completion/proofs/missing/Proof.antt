@@ -7,10 +7,10 @@ use borrow.Author.Needs.{needs}
 use lib.ListN.{length, take}
 use lib.Seq.{getD-take, length-take-le}
 use Rattle.lists.proofs.Others.{others-length}
 use Rattle.column.specs.Solving.{mostEntries, element}
 use Rattle.column.proofs.Completing.{rest-rising, missing-by}
-use Rattle.column.proofs.missing.Statement.{statement}
-use Rattle.column.proofs.missing.Tie as tie
+use Rattle.completion.proofs.missing.Statement.{statement}
+use Rattle.completion.proofs.missing.Tie as tie
 
 -- the modulus, the known and the unknown entries
 bounds : (c : tie.Start) → (1 < c .args .q) × (length (c .args .list .now) ≤ mostEntries) × (length (c .args .unknown .now) ≤ mostEntries)

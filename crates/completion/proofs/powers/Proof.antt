@@ -1,14 +1,14 @@
--- `column::powers` meets its contract. Assumes nothing.
+-- `completion::powers` meets its contract. Assumes nothing.
 use mathlib.Core.Path.{_≡_, refl, sym, _∙_}
 use Prim.Native.Nat.{ℕ, _-_, _≤_, _<_}
 use native.Mathlib.Omega.{arith}
 use lib.ListN.{length, length-set}
 use Rattle.lists.proofs.Stores.{stored-more}
 use Rattle.column.specs.Solving.{mostEntries, element, powerOf}
 use Rattle.field.proofs.Modular.{power-none, power-more}
 use borrow.Author.Needs.{needs}
-use Rattle.column.proofs.powers.Statement.{statement}
-use Rattle.column.proofs.powers.Tie as tie
+use Rattle.completion.proofs.powers.Statement.{statement}
+use Rattle.completion.proofs.powers.Tie as tie
 
 abbrev Inv-loop : tie.InvT-loop
 Inv-loop q r x out₀ p₀ t₀ out p t =

@@ -1,14 +1,14 @@
--- `column::vandermonde` meets its contract. Assumes nothing.
+-- `completion::vandermonde` meets its contract. Assumes nothing.
 use mathlib.Core.Path.{_≡_}
 use mathlib.Core.List.{List, []}
 use Prim.Native.Nat.{ℕ, _-_, _≤_, _<_}
 use native.Mathlib.Omega.{arith}
 use lib.ListN.{length, getD, length-set}
 use Rattle.lists.proofs.Stores.{stored-more}
 use Rattle.column.specs.Solving.{mostEntries, element, powerOf}
 use borrow.Author.Needs.{needs}
-use Rattle.column.proofs.vandermonde.Statement.{statement}
-use Rattle.column.proofs.vandermonde.Tie as tie
+use Rattle.completion.proofs.vandermonde.Statement.{statement}
+use Rattle.completion.proofs.vandermonde.Tie as tie
 
 -- the first r powers of point k
 abbrev Row : ℕ → ℕ → List ℕ → ℕ → List ℕ → Type 0
