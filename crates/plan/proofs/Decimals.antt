@@ -13,7 +13,7 @@ use Rattle.lists.proofs.Tests.{below-or-not, cond-below, cond-beyond}
 use Rattle.lists.proofs.Scans.{drop-next}
 use Rattle.lists.proofs.Writing.{sets-append}
 use Rattle.plan.specs.Plan.{digits, decimal, ending, line}
-use Rattle.plan.specs.Promises.{Puts}
+use Rattle.plan.specs.Lowered.{Puts}
 
 -- ---- digits
 

@@ -15,7 +15,8 @@ use Rattle.card.specs.Promises.{over}
 use Rattle.plan.specs.declared.Planned.{Planned}
 use Rattle.plan.specs.declared.Planned.the-variants as planned
 use Rattle.plan.specs.Plan.{printed, planRoom}
-use Rattle.plan.specs.Promises.{plannedValues, planRefusal, Plans, Puts}
+use Rattle.plan.specs.Lowered.{Puts}
+use Rattle.plan.specs.Promises.{plannedValues, planRefusal, Plans}
 use Rattle.plan.proofs.Room.{printed-fits}
 
 module _ (input before : List ℕ) where

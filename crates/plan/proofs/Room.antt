@@ -20,7 +20,7 @@ use Rattle.shape.proofs.Accepted.{passed, Shaped, shape-accepted, Repairable, r
 use Rattle.classes.specs.Classes.{batch, node, messageSize}
 use Rattle.numbers.specs.Numbers.{Numbers, values, broken, readNumbers}
 use Rattle.plan.specs.Plan.{helperTransfer, deadTransfer, transfers, noTransfer, line, transferLine, total, planText, textOr, listsNumber, withNodes, withLists, shapeNumber, withShape, withFront, leftOver, frontCount, printed, mostTransfers, lineRoom, totalRoom, planRoom}
-use Rattle.plan.specs.Promises.{Few, Plannable, Puts}
+use Rattle.plan.specs.Lowered.{Few, Plannable, Puts}
 use Rattle.plan.proofs.Puts.{puts-next, puts-last, puts-room}
 use Rattle.plan.proofs.Transfers.{transfers-length, transfers-count, transfer-first, transfer-second}
 use Rattle.plan.proofs.Decimals.{line-none, line-more}
