@@ -11,7 +11,7 @@ use Rattle.plan.specs.declared.Behind.{Behind}
 use Rattle.plan.specs.declared.Behind.the-variants as behind
 use Rattle.plan.specs.declared.Planned.{Planned}
 use Rattle.plan.specs.declared.Planned.the-variants as planned
-use Rattle.plan.specs.Plan.{printed, planRoom}
+use Rattle.transfers.specs.Plan.{printed, planRoom}
 
 -- ---- the call
 

@@ -1,13 +1,13 @@
--- `plan::write_plan` meets its contract: the first line, the transfers and the total, one behind the other. Assumes nothing.
+-- `transfers::write_plan` meets its contract: the first line, the transfers and the total, one behind the other. Assumes nothing.
 use mathlib.Core.Path.{_≡_, ap}
 use Prim.Native.Nat.{_+_, _/_}
 use native.Mathlib.Omega.{arith}
 use borrow.Author.Needs.{needs}
 use lib.ListN.{length}
 use Rattle.classes.specs.Classes.{messageSize}
-use Rattle.plan.proofs.Room.{senders-high, count-high, total-high, few-listed, first-room, transfers-room, total-room, plan-put}
-use Rattle.plan.proofs.write_plan.Statement.{statement}
-use Rattle.plan.proofs.write_plan.Tie as tie
+use Rattle.transfers.proofs.Room.{senders-high, count-high, total-high, few-listed, first-room, transfers-room, total-room, plan-put}
+use Rattle.transfers.proofs.write_plan.Statement.{statement}
+use Rattle.transfers.proofs.write_plan.Tie as tie
 
 -- the symbols of a message
 sized : (c : tie.After-size) →

@@ -1,4 +1,4 @@
--- `plan::write_transfers` meets its contract: the lines of the transfers from number e on are still to be written, at the place. Assumes nothing.
+-- `transfers::write_transfers` meets its contract: the lines of the transfers from number e on are still to be written, at the place. Assumes nothing.
 use mathlib.Core.Path.{_≡_}
 use Prim.Native.Nat.{_+_, _*_, _-_, _≤_}
 use native.Mathlib.Nat.{mul-le-mul}
@@ -6,11 +6,11 @@ use native.Mathlib.Omega.{arith}
 use borrow.Author.Needs.{needs}
 use lib.ListN.{length}
 use Rattle.shape.specs.Shape.{mostNodes}
-use Rattle.plan.specs.Plan.{transfers, noTransfer, transferLine}
-use Rattle.plan.proofs.Transfers.{transfers-length}
-use Rattle.plan.proofs.Lines.{Lines, lines-start, lines-room, lines-step, lines-done}
-use Rattle.plan.proofs.write_transfers.Statement.{statement}
-use Rattle.plan.proofs.write_transfers.Tie as tie
+use Rattle.transfers.specs.Plan.{transfers, noTransfer, transferLine}
+use Rattle.transfers.proofs.Transfers.{transfers-length}
+use Rattle.transfers.proofs.Lines.{Lines, lines-start, lines-room, lines-step, lines-done}
+use Rattle.transfers.proofs.write_transfers.Statement.{statement}
+use Rattle.transfers.proofs.write_transfers.Tie as tie
 
 abbrev Inv-loop : tie.InvT-loop
 Inv-loop symbols dead helpers text₀ at h count place₀ e₀ text place e =

@@ -1,9 +1,9 @@
--- `plan::write_refusal` meets its contract: the line of the cause's number. Assumes nothing.
+-- `transfers::write_refusal` meets its contract: the line of the cause's number. Assumes nothing.
 use native.Mathlib.Omega.{arith}
 use borrow.Author.Needs.{needs}
-use Rattle.plan.proofs.Room.{refusal-fits, number-small}
-use Rattle.plan.proofs.write_refusal.Statement.{statement}
-use Rattle.plan.proofs.write_refusal.Tie as tie
+use Rattle.transfers.proofs.Room.{refusal-fits, number-small}
+use Rattle.transfers.proofs.write_refusal.Statement.{statement}
+use Rattle.transfers.proofs.write_refusal.Tie as tie
 
 write-line-requires : tie.Need-write-line-requires
 write-line-requires c κs = rw (c .before .before .number-of .ensures) (omega (arith, refusal-fits _ (number-small (c .before .before .before .before .args .cause))))

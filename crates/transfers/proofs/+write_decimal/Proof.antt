@@ -1,15 +1,15 @@
--- `plan::write_decimal` meets its contract: a single digit, or the digits of a tenth and one more. Each call has a smaller number. Assumes nothing.
+-- `transfers::write_decimal` meets its contract: a single digit, or the digits of a tenth and one more. Each call has a smaller number. Assumes nothing.
 use Prim.Native.Nat.{ℕ, _<_}
 use native.Mathlib.Omega.{arith}
 use borrow.Author.Needs.{needs}
 use borrow.Fn.Kinds.{In}
 use borrow.Fn.PlainCycle.{Measures, is, falls, and}
-use Rattle.plan.proofs.Decimals.{digit-room, digits-room, digits-inside, digit-put, digits-put}
-use Rattle.plan.proofs.write_decimal.Reads as write-decimal
-use Rattle.plan.proofs.write_decimal.Kinds as write-decimal-kinds
-use Rattle.plan.proofs.+write_decimal.Lts-write_decimal as lts
-use Rattle.plan.proofs.+write_decimal.{statement}
-use Rattle.plan.proofs.+write_decimal.Tie.{close}
+use Rattle.transfers.proofs.Decimals.{digit-room, digits-room, digits-inside, digit-put, digits-put}
+use Rattle.transfers.proofs.write_decimal.Reads as write-decimal
+use Rattle.transfers.proofs.write_decimal.Kinds as write-decimal-kinds
+use Rattle.transfers.proofs.+write_decimal.Lts-write_decimal as lts
+use Rattle.transfers.proofs.+write_decimal.{statement}
+use Rattle.transfers.proofs.+write_decimal.Tie.{close}
 
 abbrev μ-write-decimal : Measures 1 write-decimal-kinds.ps ℕ
 μ-write-decimal κs a = a .0

@@ -1,10 +1,10 @@
--- `plan::other_rank` meets its contract: the test is the definition's. Assumes nothing.
+-- `transfers::other_rank` meets its contract: the test is the definition's. Assumes nothing.
 use mathlib.Core.Path.{sym}
 use borrow.Author.Needs.{needs}
 use Rattle.lists.proofs.Tests.{cond-below, cond-beyond}
 use Rattle.classes.specs.Steps.{otherRank}
-use Rattle.plan.proofs.other_rank.Statement.{statement}
-use Rattle.plan.proofs.other_rank.Tie as tie
+use Rattle.transfers.proofs.other_rank.Statement.{statement}
+use Rattle.transfers.proofs.other_rank.Tie as tie
 
 returns : tie.Need-returns
 unfolding otherRank

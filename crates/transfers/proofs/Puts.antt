@@ -5,7 +5,7 @@ use Prim.Native.Nat.{ℕ, _+_, _≤_}
 use native.Mathlib.Omega.{arith}
 use lib.ListN.{length, length-append}
 use Rattle.lists.proofs.Writing.{Writing, writing-piece, writing-room, writing-end}
-use Rattle.plan.specs.Lowered.{Puts}
+use Rattle.transfers.specs.Promises.{Puts}
 
 module _ {xs old : List ℕ} {from : ℕ} {left now : List ℕ} {at : ℕ} (w : Writing xs old from left now at) where
   pub puts-next : {ys : List ℕ} (rest : List ℕ) {after : List ℕ} {next : ℕ} → left ≡ ys ++ rest → Puts ys now at after next → Writing xs old from rest after next

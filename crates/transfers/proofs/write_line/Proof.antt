@@ -1,11 +1,11 @@
--- `plan::write_line` meets its contract: the numbers from number i on are still to be written, at the place. Assumes nothing.
+-- `transfers::write_line` meets its contract: the numbers from number i on are still to be written, at the place. Assumes nothing.
 use Prim.Native.Nat.{_-_, _≤_, _<_}
 use native.Mathlib.Omega.{arith}
 use borrow.Author.Needs.{needs}
 use lib.ListN.{length}
-use Rattle.plan.proofs.Lines.{Line, line-start, line-done, number-room, ending-inside, line-step}
-use Rattle.plan.proofs.write_line.Statement.{statement}
-use Rattle.plan.proofs.write_line.Tie as tie
+use Rattle.transfers.proofs.Lines.{Line, line-start, line-done, number-room, ending-inside, line-step}
+use Rattle.transfers.proofs.write_line.Statement.{statement}
+use Rattle.transfers.proofs.write_line.Tie as tie
 
 abbrev Inv-loop : tie.InvT-loop
 Inv-loop numbers text₀ at place₀ i₀ text place i = (i ≤ length numbers) × Line numbers text₀ at i text place

@@ -12,8 +12,8 @@ use lib.Seq.{sets, length-sets}
 use Rattle.lists.proofs.Tests.{below-or-not, cond-below, cond-beyond}
 use Rattle.lists.proofs.Scans.{drop-next}
 use Rattle.lists.proofs.Writing.{sets-append}
-use Rattle.plan.specs.Plan.{digits, decimal, ending, line}
-use Rattle.plan.specs.Lowered.{Puts}
+use Rattle.transfers.specs.Plan.{digits, decimal, ending, line}
+use Rattle.transfers.specs.Promises.{Puts}
 
 -- ---- digits
 

@@ -1,4 +1,4 @@
--- `plan::transfer_at` meets its contract: a helper's transfer by receiver then sender, or an exchange behind them. Assumes nothing.
+-- `transfers::transfer_at` meets its contract: a helper's transfer by receiver then sender, or an exchange behind them. Assumes nothing.
 use mathlib.Core.Path.{sym}
 use Prim.Native.Nat.{_*_, _-_, _<_}
 use native.Mathlib.Nat.{mul-le-mul}
@@ -6,10 +6,10 @@ use native.Mathlib.Omega.{arith}
 use lib.ListN.{length}
 use Rattle.lists.proofs.Places.{Place, place-of}
 use Rattle.classes.specs.Classes.{node}
-use Rattle.plan.specs.Plan.{helperTransfer, deadTransfer}
-use Rattle.plan.proofs.Transfers.{transfers-length, transfer-first, transfer-second, other-below}
-use Rattle.plan.proofs.transfer_at.Statement.{statement}
-use Rattle.plan.proofs.transfer_at.Tie as tie
+use Rattle.transfers.specs.Plan.{helperTransfer, deadTransfer}
+use Rattle.transfers.proofs.Transfers.{transfers-length, transfer-first, transfer-second, other-below}
+use Rattle.transfers.proofs.transfer_at.Statement.{statement}
+use Rattle.transfers.proofs.transfer_at.Tie as tie
 
 -- a helper's transfer: its receiver's rank, and its sender's place in the list
 to : (c : tie.Then1) →

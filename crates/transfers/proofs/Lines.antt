@@ -6,10 +6,10 @@ use native.Mathlib.Omega.{arith}
 use lib.ListN.{length, getD, set, drop, drop-of-length-le}
 use Rattle.lists.proofs.Scans.{drop-next}
 use Rattle.lists.proofs.Writing.{Writing, writing-all, writing-next, writing-room}
-use Rattle.plan.specs.Plan.{decimal, ending, line}
-use Rattle.plan.specs.Lowered.{Puts}
-use Rattle.plan.proofs.Decimals.{line-next, line-end}
-use Rattle.plan.proofs.Puts.{puts-next, puts-room, puts-end}
+use Rattle.transfers.specs.Plan.{decimal, ending, line}
+use Rattle.transfers.specs.Promises.{Puts}
+use Rattle.transfers.proofs.Decimals.{line-next, line-end}
+use Rattle.transfers.proofs.Puts.{puts-next, puts-room, puts-end}
 
 -- ---- a line: its numbers from number i on are still to be written
 

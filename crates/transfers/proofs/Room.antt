@@ -19,11 +19,11 @@ use Rattle.shape.specs.Refusals.{numberOf, refuse, shapeBad, repairBad, layersB
 use Rattle.shape.proofs.Accepted.{passed, Shaped, shape-accepted, Repairable, repair-accepted}
 use Rattle.classes.specs.Classes.{batch, node, messageSize}
 use Rattle.numbers.specs.Numbers.{Numbers, values, broken, readNumbers}
-use Rattle.plan.specs.Plan.{helperTransfer, deadTransfer, transfers, noTransfer, line, transferLine, total, planText, textOr, listsNumber, withNodes, withLists, shapeNumber, withShape, withFront, leftOver, frontCount, printed, mostTransfers, lineRoom, totalRoom, planRoom}
-use Rattle.plan.specs.Lowered.{Few, Plannable, Puts}
-use Rattle.plan.proofs.Puts.{puts-next, puts-last, puts-room}
-use Rattle.plan.proofs.Transfers.{transfers-length, transfers-count, transfer-first, transfer-second}
-use Rattle.plan.proofs.Decimals.{line-none, line-more}
+use Rattle.transfers.specs.Plan.{helperTransfer, deadTransfer, transfers, noTransfer, line, transferLine, total, planText, textOr, listsNumber, withNodes, withLists, shapeNumber, withShape, withFront, leftOver, frontCount, printed, mostTransfers, lineRoom, totalRoom, planRoom}
+use Rattle.transfers.specs.Promises.{Few, Plannable, Puts}
+use Rattle.transfers.proofs.Puts.{puts-next, puts-last, puts-room}
+use Rattle.transfers.proofs.Transfers.{transfers-length, transfers-count, transfer-first, transfer-second}
+use Rattle.transfers.proofs.Decimals.{line-none, line-more}
 
 -- an element of a rising list, or 0 where there is none
 small : (n : ℕ) (xs : List ℕ) → 0 < n → rising 0 n xs ≡ true → (i : ℕ) → getD xs i 0 < n
