@@ -1,11 +1,11 @@
--- `archive::store_header` meets its contract: the five stores fill the buffer. Assumes nothing.
+-- `returned::store_header` meets its contract: the five stores fill the buffer. Assumes nothing.
 use native.Mathlib.Omega.{arith}
 use borrow.Author.Needs.{needs}
 use lib.ListN.{length-set}
 use Rattle.card.specs.Cards.{headerNumbers}
-use Rattle.archive.proofs.Cards.{five-set}
-use Rattle.archive.proofs.store_header.Statement.{statement}
-use Rattle.archive.proofs.store_header.Tie as tie
+use Rattle.returned.proofs.Cards.{five-set}
+use Rattle.returned.proofs.store_header.Statement.{statement}
+use Rattle.returned.proofs.store_header.Tie as tie
 
 slice-write-header-5 : tie.Need-slice-write-header-5
 slice-write-header-5 c = simp length-set (omega (arith, c .before .pre))

@@ -1,10 +1,10 @@
--- `archive::equation_number` meets its contract: the number and all on the way to it are small. Assumes nothing.
+-- `returned::equation_number` meets its contract: the number and all on the way to it are small. Assumes nothing.
 use mathlib.Core.Path.{refl}
 use native.Mathlib.Omega.{arith}
 use Rattle.code.specs.Promises.{equationNumber}
-use Rattle.archive.proofs.Equations.{Within, within}
-use Rattle.archive.proofs.equation_number.Statement.{statement}
-use Rattle.archive.proofs.equation_number.Tie as tie
+use Rattle.returned.proofs.Equations.{Within, within}
+use Rattle.returned.proofs.equation_number.Statement.{statement}
+use Rattle.returned.proofs.equation_number.Tie as tie
 
 -- the equation is one of the shape's
 known : (c : tie.Start) → Within (c .args .s) (c .args .layer) (c .args .a) (c .args .t)

@@ -1,8 +1,8 @@
--- `archive::unpack_room` meets its contract. Assumes nothing.
+-- `returned::unpack_room` meets its contract. Assumes nothing.
 use mathlib.Core.Path.{sym}
-use Rattle.archive.proofs.Cards.{room-five, room-other}
-use Rattle.archive.proofs.unpack_room.Statement.{statement}
-use Rattle.archive.proofs.unpack_room.Tie as tie
+use Rattle.returned.proofs.Cards.{room-five, room-other}
+use Rattle.returned.proofs.unpack_room.Statement.{statement}
+use Rattle.returned.proofs.unpack_room.Tie as tie
 
 returns : tie.Need-returns
 returns c = sym (room-five _ _ (c .if1 .taken))

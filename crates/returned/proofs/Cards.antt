@@ -25,7 +25,7 @@ use Rattle.card.specs.Cards.{headerNumbers, headerOf, headerCount, headerRefusa
 use Rattle.card.specs.Promises.{symbolValues, packedNumber, packedValues, readingOf, readingNumber, readingSymbols, Packs, Unpacks}
 use Rattle.card.proofs.Judging.{header-accepted, pack-accepted}
 use Rattle.card.proofs.Cards.{card-fits}
-use Rattle.archive.specs.Promises.{unpackRoom, unpackedInto, readingHeader, UnpackReturned}
+use Rattle.returned.specs.Promises.{unpackRoom, unpackedInto, readingHeader, UnpackReturned}
 
 -- ---- packing
 
