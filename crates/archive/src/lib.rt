@@ -4,37 +4,22 @@ use card::Packed;
 use card::Unpacked;
 use code::Checked;
 use plan::Planned;
-use shape::Answer;
+use returned::answer_number;
+use returned::equation_number;
+use returned::store_header;
+use returned::unpack_room;
 use shape::Shape;
 use shape::number_of;
-use shape::two_to;
-ghost use mathlib.Core.Path.{_≡_};
-ghost use mathlib.Core.Bool.{false};
-ghost use Prim.Native.Nat.{_-_, _^_, _<_};
 ghost use lib.ListN.{length};
-ghost use Rattle.shape.specs.Refusals.{answerNumber, shapeBad};
-ghost use Rattle.code.specs.Promises.{equationNumber, Writes, Checks, Restores, Opens};
+ghost use Rattle.shape.specs.Refusals.{answerNumber};
+ghost use Rattle.code.specs.Promises.{Writes, Checks, Restores, Opens};
 ghost use Rattle.repair.specs.Promises.{HelperMessage, FirstStep, SecondStep, Repaired};
-ghost use Rattle.card.specs.Cards.{headerCount, headerNumbers};
 ghost use Rattle.card.specs.Promises.{Packs};
 ghost use Rattle.plan.specs.Promises.{Plans};
-ghost use Rattle.archive.specs.Promises.{Returned, shapeOf, headerFrom, checkReturned, packReturned, planReturned, unpackRoom, UnpackReturned};
+ghost use Rattle.returned.specs.Promises.{Returned, shapeOf, headerFrom, checkReturned, packReturned, planReturned, UnpackReturned};
 
 // What check and pack find is returned behind the numbers below this one, which are refusals'.
 const FIRST_FOUND: usize = 256;
-
-// The numbers of a card's header: n, k, layers, node, length.
-const HEADER_COUNT: usize = 5;
-
-// What a call that does its work or turns back returns to C.
-fn answer_number(answer: Answer) -> usize
-    ensures { λ r. ⌜ r ≡ answerNumber answer ⌝ }
-{
-    match answer {
-        Answer::Done => 0,
-        Answer::Refused(cause) => number_of(cause),
-    }
-}
 
 // The archive of a transcript.
 #[no_mangle]
@@ -49,16 +34,6 @@ pub extern "C" fn archive_write(
 {
     let s = Shape { n, k, layers };
     answer_number(transcript::write(s, transcript, nodes))
-}
-
-// The number of equation t at (layer, a), by layer, then a, then t.
-fn equation_number(s: Shape, layer: usize, a: usize, t: usize) -> usize
-    requires { ⌜ (shapeBad s ≡ false) × (layer < s .layers) × (a < 2 ^ s .n) × (t < s .n - s .k) ⌝ }
-    ensures { λ r. ⌜ (r ≡ equationNumber s layer a t) × (r < 2 ^ 32) ⌝ }
-{
-    let n = s.n;
-    let k = s.k;
-    (layer * two_to(n) + a) * (n - k) + t
 }
 
 // The check of all n nodes: 0 sound, a refusal's number, or the number of the first unmet equation behind FIRST_FOUND.
@@ -204,26 +179,6 @@ pub extern "C" fn archive_pack(
         Packed::Refused(cause) => number_of(cause),
         Packed::Card(long) => FIRST_FOUND + long,
     }
-}
-
-// The symbols that unpacking has room for: none where the header's buffer is of another length. Every card has symbols, so 4 then comes in its place among the causes.
-fn unpack_room(header: usize, symbols: usize) -> usize
-    ensures { λ r. ⌜ r ≡ unpackRoom header symbols ⌝ }
-{
-    if header == HEADER_COUNT { symbols } else { 0 }
-}
-
-// A header's numbers, in the order in which a card has them.
-fn store_header(read: Header, header: &mut [usize])
-    requires { ⌜ length (now header) ≡ headerCount ⌝ }
-    ensures { λ _. ⌜ now (header .exit) ≡ headerNumbers read ⌝ }
-{
-    let s = read.shape;
-    header[0] = s.n;
-    header[1] = s.k;
-    header[2] = s.layers;
-    header[3] = read.node;
-    header[4] = read.length;
 }
 
 // The header and the symbols of a card.

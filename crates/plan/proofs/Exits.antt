@@ -18,8 +18,9 @@ use Rattle.shape.proofs.Answers.{number-positive}
 use Rattle.numbers.specs.Numbers.{Numbers, values, broken, readNumbers}
 use Rattle.plan.specs.declared.Behind.{Behind}
 use Rattle.plan.specs.declared.Behind.the-variants as behind
-use Rattle.plan.specs.Plan.{line, planText, textOr, leftOver, listsNumber, withNodes, withLists, shapeNumber, withShape, withFront, frontCount, printed}
-use Rattle.plan.specs.Promises.{numbersOf, Puts}
+use Rattle.transfers.specs.Plan.{line, planText, textOr, leftOver, listsNumber, withNodes, withLists, shapeNumber, withShape, withFront, frontCount, printed}
+use Rattle.transfers.specs.Promises.{Puts}
+use Rattle.plan.specs.Promises.{numbersOf}
 
 -- the same bytes in other words
 pub puts-as : {xs ys before after : List ℕ} {at next : ℕ} → xs ≡ ys → Puts xs before at after next → Puts ys before at after next

@@ -14,9 +14,10 @@ use Rattle.shape.proofs.Answers.{afterwards-done, afterwards-refused}
 use Rattle.card.specs.Promises.{over}
 use Rattle.plan.specs.declared.Planned.{Planned}
 use Rattle.plan.specs.declared.Planned.the-variants as planned
-use Rattle.plan.specs.Plan.{printed, planRoom}
-use Rattle.plan.specs.Promises.{plannedValues, planRefusal, Plans, Puts}
-use Rattle.plan.proofs.Room.{printed-fits}
+use Rattle.transfers.specs.Plan.{printed, planRoom}
+use Rattle.transfers.specs.Promises.{Puts}
+use Rattle.plan.specs.Promises.{plannedValues, planRefusal, Plans}
+use Rattle.transfers.proofs.Room.{printed-fits}
 
 module _ (input before : List ℕ) where
   pub plans-refused : length before < planRoom → Plans input before before (planned.Refused refusal.WrongLength)

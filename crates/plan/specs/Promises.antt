@@ -1,21 +1,17 @@
--- What the plan's call promises: the number, the text's length, and the lent buffer when the call returns; and what its inner functions promise.
+-- What the plan's call promises: the number, the text's length, and the lent buffer when the call returns; and what was read into a slice of numbers.
 use mathlib.Core.Path.{_≡_}
-use mathlib.Core.Bool.{false}
 use mathlib.Core.List.{List, [], _∷_}
-use Prim.Native.Nat.{ℕ, _+_, _≤_}
+use Prim.Native.Nat.{ℕ}
 use lib.Dec.{ltb}
 use lib.ListN.{length, drop}
-use lib.Seq.{sets}
-use Rattle.shape.specs.declared.Shape.{Shape}
-use Rattle.shape.specs.Shape.{mostNodes}
-use Rattle.shape.specs.Refusals.{numberOf, refuse, afterwards, shapeBad, repairBad}
+use Rattle.shape.specs.Refusals.{numberOf, refuse, afterwards}
 use Rattle.numbers.specs.Numbers.{Numbers, values, broken}
 use Rattle.card.specs.Promises.{over}
 use Rattle.plan.specs.declared.Behind.{Behind}
 use Rattle.plan.specs.declared.Behind.the-variants as behind
 use Rattle.plan.specs.declared.Planned.{Planned}
 use Rattle.plan.specs.declared.Planned.the-variants as planned
-use Rattle.plan.specs.Plan.{printed, planRoom}
+use Rattle.transfers.specs.Plan.{printed, planRoom}
 
 -- ---- the call
 
@@ -45,19 +41,3 @@ pub record Plans (input before after : List ℕ) (answer : Planned) : Type 0 whe
 unfoldable pub numbersOf : List ℕ → List ℕ → Behind → Numbers
 numbersOf bytes numbers behind.Malformed = broken
 numbersOf bytes numbers (behind.At next) = values numbers (drop next bytes)
-
--- some bytes are written into a buffer from a place on; `next` is the place behind them
-pub record Puts (bytes before : List ℕ) (at : ℕ) (after : List ℕ) (next : ℕ) : Type 0 where
-  pub place : next ≡ at + length bytes
-  pub held : after ≡ sets before at bytes
-
--- some dead nodes, and no more listed nodes than there can be
-pub record Few (dead helpers : List ℕ) : Type 0 where
-  pub some : 1 ≤ length dead
-  pub dead-few : length dead ≤ mostNodes
-  pub helpers-few : length helpers ≤ mostNodes
-
--- lists that are planned: neither the shape nor the lists are bad
-pub record Plannable (s : Shape) (dead helpers : List ℕ) : Type 0 where
-  pub shape : shapeBad s ≡ false
-  pub lists : repairBad s dead helpers ≡ false

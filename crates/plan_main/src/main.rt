@@ -5,7 +5,7 @@ use plan::Planned;
 ghost use mathlib.Core.Path.{_≡_};
 ghost use lib.ListN.{length};
 ghost use Rattle.io.specs.Counts.{Counts};
-ghost use Rattle.plan.specs.Plan.{mostInput};
+ghost use Rattle.transfers.specs.Plan.{mostInput};
 
 // Reads as many bytes of standard input as can change the text, and no more: `printed-by-front` says that more cannot.
 fn read(input: &mut [u8]) -> usize

@@ -2,8 +2,8 @@
 use mathlib.Core.Path.{sym, ap, _∙_}
 use Prim.Native.Nat.{_+_}
 use borrow.Author.Needs.{needs}
-use Rattle.archive.specs.Promises.{firstFound, checkReturned}
-use Rattle.archive.proofs.Equations.{unmet-shape}
+use Rattle.returned.specs.Promises.{firstFound, checkReturned}
+use Rattle.returned.proofs.Equations.{unmet-shape}
 use Rattle.archive.proofs.archive_check.Statement.{statement}
 use Rattle.archive.proofs.archive_check.Tie as tie
 

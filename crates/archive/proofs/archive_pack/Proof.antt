@@ -2,8 +2,8 @@
 use mathlib.Core.Path.{sym, ap, _∙_}
 use native.Mathlib.Omega.{arith}
 use borrow.Author.Needs.{needs}
-use Rattle.archive.specs.Promises.{packReturned}
-use Rattle.archive.proofs.Cards.{card-short}
+use Rattle.returned.specs.Promises.{packReturned}
+use Rattle.returned.proofs.Cards.{card-short}
 use Rattle.archive.proofs.archive_pack.Statement.{statement}
 use Rattle.archive.proofs.archive_pack.Tie as tie
 

@@ -1,7 +1,7 @@
 -- `archive::archive_plan` meets its contract: the text's length, or 0. Assumes nothing.
 use mathlib.Core.Path.{sym, ap}
 use borrow.Author.Needs.{needs}
-use Rattle.archive.specs.Promises.{planReturned}
+use Rattle.returned.specs.Promises.{planReturned}
 use Rattle.archive.proofs.archive_plan.Statement.{statement}
 use Rattle.archive.proofs.archive_plan.Tie as tie
 

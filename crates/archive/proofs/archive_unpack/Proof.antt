@@ -2,7 +2,7 @@
 use mathlib.Core.Path.{sym}
 use borrow.Author.Needs.{needs}
 use lib.Seq.{length-take-le}
-use Rattle.archive.proofs.Cards.{room-within, unpack-refused, header-five, unpack-done}
+use Rattle.returned.proofs.Cards.{room-within, unpack-refused, header-five, unpack-done}
 use Rattle.archive.proofs.archive_unpack.Statement.{statement}
 use Rattle.archive.proofs.archive_unpack.Tie as tie
 

@@ -4,7 +4,7 @@ use borrow.Author.Needs.{needs}
 use Rattle.shape.specs.Refusals.{layersBad}
 use Rattle.shape.proofs.Batches.{batch-positive}
 use Rattle.classes.specs.Classes.{batch}
-use Rattle.plan.specs.Plan.{listsNumber}
+use Rattle.transfers.specs.Plan.{listsNumber}
 use Rattle.plan.proofs.judge_lists.Statement.{statement}
 use Rattle.plan.proofs.judge_lists.Tie as tie
 

@@ -5,7 +5,7 @@ use native.Mathlib.Omega.{arith}
 use borrow.Author.Needs.{needs}
 use Rattle.shape.specs.Refusals.{shapeBad}
 use Rattle.shape.proofs.Accepted.{shape-accepted}
-use Rattle.plan.specs.Plan.{shapeNumber}
+use Rattle.transfers.specs.Plan.{shapeNumber}
 use Rattle.plan.proofs.judge_shape.Statement.{statement}
 use Rattle.plan.proofs.judge_shape.Tie as tie
 

@@ -6,10 +6,10 @@ use borrow.Author.Needs.{needs}
 use lib.ListN.{drop, replicate}
 use Rattle.shape.specs.Shape.{mostNodes}
 use Rattle.numbers.specs.Numbers.{readNumbers}
-use Rattle.plan.specs.Plan.{withLists}
-use Rattle.plan.proofs.Room.{shape-passed}
+use Rattle.transfers.specs.Plan.{withLists}
+use Rattle.transfers.proofs.Room.{shape-passed}
 use Rattle.plan.proofs.Exits.{puts-as, front-length}
-use Rattle.plan.proofs.Printed.{front-accepted}
+use Rattle.transfers.proofs.Printed.{front-accepted}
 use Rattle.plan.proofs.write_lists.Statement.{statement}
 use Rattle.plan.proofs.write_lists.Tie as tie
 

@@ -5,8 +5,8 @@ use native.Mathlib.Omega.{arith}
 use borrow.Author.Needs.{needs}
 use lib.ListN.{length, take, drop}
 use Rattle.shape.specs.Refusals.{answerNumber}
-use Rattle.plan.specs.Plan.{listsNumber}
-use Rattle.plan.proofs.Room.{lists-accepted}
+use Rattle.transfers.specs.Plan.{listsNumber}
+use Rattle.transfers.proofs.Room.{lists-accepted}
 use Rattle.plan.proofs.Exits.{puts-as, front-length, behind-dead, nodes-refused, nodes-planned}
 use Rattle.plan.proofs.write_nodes.Statement.{statement}
 use Rattle.plan.proofs.write_nodes.Tie as tie

@@ -4,7 +4,7 @@ use borrow.Author.Needs.{needs}
 use lib.ListN.{drop}
 use Rattle.shape.specs.Refusals.{answerNumber}
 use Rattle.numbers.specs.Numbers.{values, readNumbers}
-use Rattle.plan.specs.Plan.{frontCount}
+use Rattle.transfers.specs.Plan.{frontCount}
 use Rattle.plan.proofs.Exits.{puts-as, read-bad, read-good, front-bad, front-refused, front-passed}
 use Rattle.plan.proofs.write_text.Statement.{statement}
 use Rattle.plan.proofs.write_text.Tie as tie
