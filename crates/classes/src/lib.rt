@@ -7,7 +7,7 @@ use shape::size;
 use shape::two_to;
 ghost use mathlib.Core.Path.{_≡_};
 ghost use mathlib.Core.Bool.{true, false, cond};
-ghost use Prim.Native.Nat.{_+_, _*_, _%_, _^_, _≤_, _<_};
+ghost use Prim.Native.Nat.{_+_, _*_, _/_, _%_, _^_, _≤_, _<_};
 ghost use lib.Bits.{bitXor};
 ghost use lib.Dec.{eqb};
 ghost use lib.ListN.{length};
@@ -133,18 +133,38 @@ pub fn laid_out(s: Shape, dead: &[usize]) -> Layout
     }
 }
 
+// The batch of place e, where e counts the places of all batches' layers 0. 2^n is a divisor that the compiler does not know, and a
+// shift is fast.
+fn batch_at(g: Layout, dead: &[usize], e: usize) -> usize
+    requires { ⌜ Ready (now dead) g ⌝ }
+    ensures { λ r. ⌜ r ≡ e / g .places ⌝ }
+{
+    let s = g.shape;
+    let n = s.n;
+    e >> n
+}
+
+// The a of place e of all batches' layers 0.
+fn a_at(g: Layout, dead: &[usize], e: usize) -> usize
+    requires { ⌜ Ready (now dead) g ⌝ }
+    ensures { λ r. ⌜ r ≡ e % g .places ⌝ }
+{
+    let places = g.places;
+    e - batch_at(g, dead, e) * places
+}
+
 // The first (which = 0) or the other (1) place of rank u's sum at e, which counts the places of all batches' layers 0.
 pub fn place(g: Layout, dead: &[usize], u: usize, which: usize, e: usize) -> usize
     requires { ⌜ (Ready (now dead) g) × (u < length (now dead)) × (e < g .batches * g .places) ⌝ }
     ensures { λ r. ⌜ (r < size (g .shape)) × (r ≡ placeAt (g .shape) (now (dead .entry)) u which e) ⌝ }
 {
-    let places = g.places;
+    let a = a_at(g, dead, e);
+    let b = batch_at(g, dead, e);
     if which == 0 {
-        place_of(g, dead, 0, e / places, e % places)
+        place_of(g, dead, 0, b, a)
     } else {
         let node = dead[u];
-        let turned = flipped(node, e % places);
-        place_of(g, dead, partner(g, dead, u), e / places, turned)
+        place_of(g, dead, partner(g, dead, u), b, flipped(node, a))
     }
 }
 
@@ -153,8 +173,7 @@ pub fn of_class(g: Layout, dead: &[usize], c: usize, e: usize) -> bool
     requires { ⌜ Ready (now dead) g ⌝ }
     ensures { λ r. ⌜ r ≡ inClass (now (dead .entry)) c (e % 2 ^ g .shape .n) ⌝ }
 {
-    let places = g.places;
-    class_of(g, dead, e % places) == c
+    class_of(g, dead, a_at(g, dead, e)) == c
 }
 
 // "the helper's symbol at (layer 0, a) plus its symbol at (partner layer, a with bit i_u flipped)"

@@ -14,60 +14,53 @@ use Rattle.classes.proofs.place.Tie as tie
 at : (c : tie.Start) → Place (c .args .g .batches) (c .args .g .places) (c .args .e)
 at c = place-of _ _ _ (c .pre .2)
 
-div-place-of : tie.Need-div-place-of
-div-place-of c = omega (arith, bounded (c .before .before .pre .0) .places-low)
-
-rem-place-of : tie.Need-rem-place-of
-rem-place-of c = omega (arith, bounded (c .before .before .pre .0) .places-low)
-
 place-of-requires : tie.Need-place-of-requires
-place-of-requires c κs = let p = c .before .before .pre .0 in (p, bounded p .batch-low, at (c .before .before) .row, at (c .before .before) .place)
-
-rem-flipped : tie.Need-rem-flipped
-rem-flipped c = omega (arith, bounded (c .before .before .before .pre .0) .places-low)
+place-of-requires c κs =
+    let st = c .before .before .before .before in
+    (st .pre .0, bounded (st .pre .0) .batch-low, rw (c .before .batch-at .ensures) (at st .row), rw (c .before .before .a-at .ensures) (at st .place))
 
 flipped-requires : tie.Need-flipped-requires
 unfolding node
-flipped-requires c κs = let st = c .before .before .before in (node-high (st .pre .0) _ (st .pre .1) .1, omega (arith, at st .place, bounded (st .pre .0) .places-high))
-
-div-place-of-2 : tie.Need-div-place-of-2
-div-place-of-2 c = omega (arith, bounded (c .before .before .before .before .before .pre .0) .places-low)
+flipped-requires c κs =
+    let st = c .before .before .before .before .before .before in
+    (node-high (st .pre .0) _ (st .pre .1) .1, rw (c .before .before .before .before .a-at .ensures) (omega (arith, at st .place, bounded (st .pre .0) .places-high)))
 
 place-of-requires-2 : tie.Need-place-of-requires-2
 unfolding node
 place-of-requires-2 c κs =
-    let st = c .before .before .before .before .before in
+    let st = c .before .before .before .before .before .before .before in
     let R = st .pre .0 in
     let a = at st .place in (
       R,
-      rw (c .partner .ensures, R .batch-is) (partner-lt _ _ (st .pre .1)),
-      at st .row,
-      rw (c .before .flipped .ensures, R .places-is) (flip-node-lt (ready-dead R) _ _ (st .pre .1) (rw (R .places-is) at a)),
+      rw (c .before .partner .ensures, R .batch-is) (partner-lt _ _ (st .pre .1)),
+      rw (c .before .before .before .before .batch-at .ensures) (at st .row),
+      rw (c .flipped .ensures, c .before .before .before .before .before .a-at .ensures, R .places-is) (flip-node-lt (ready-dead R) _ _ (st .pre .1) (rw (R .places-is) at a)),
     )
 
 returns : tie.Need-returns
 unfolding placeAt sumPlace
-returns c = (c .place-of .ensures .0, c .place-of .ensures .1 ∙ rw (eq-eqb _ _ (c .before .if1 .taken), c .before .before .before .pre .0 .places-is))
+returns c = (c .place-of .ensures .0, c .place-of .ensures .1 ∙ rw (eq-eqb _ _ (c .before .if1 .taken), c .before .before .batch-at .ensures, c .before .before .before .a-at .ensures, c .before .before .before .before .before .pre .0 .places-is))
 
 returns-2 : tie.Need-returns-2
 unfolding placeAt sumPlace node
 returns-2 c =
-    let st = c .before .before .before .before .before .before in
-    (c .place-of2 .ensures .0, c .place-of2 .ensures .1 ∙ rw (ne-eqb _ _ (c .before .before .before .before .if1 .left), c .before .partner .ensures, c .before .before .flipped .ensures, st .pre .0 .places-is))
+    let st = c .before .before .before .before .before .before .before .before in (
+      c .place-of2 .ensures .0,
+      c .place-of2 .ensures .1
+          ∙ rw (ne-eqb _ _ (c .before .before .before .before .if1 .left), c .before .before .partner .ensures, c .before .flipped .ensures, c .before .before .before .before .before .batch-at .ensures, c .before .before .before .before .before .before .a-at .ensures, st .pre .0 .places-is),
+    )
 
 pub place-spec : {M : Type 1} → statement M
 place-spec =
     tie.close
     (tie.spec
-    div-place-of
-    rem-place-of
+    (λ c κs. search needs)
+    (λ c κs. search needs)
     place-of-requires
     (λ c. search needs)
     (λ c. search needs)
-    rem-flipped
-    flipped-requires
     (λ c κs. search needs)
-    div-place-of-2
+    flipped-requires
     place-of-requires-2
     returns
     returns-2)
