@@ -62,7 +62,7 @@ pub extern "C" fn archive_restore(
     ensures { λ r. ⌜ Returned answerNumber (Restores (shapeOf n k layers) (now (list .entry)) (now (symbols .entry)) (now (nodes .entry)) (now (nodes .exit))) r ⌝ }
 {
     let s = Shape { n, k, layers };
-    answer_number(code::restore(s, list, symbols, nodes))
+    answer_number(restoring::restore(s, list, symbols, nodes))
 }
 
 // The transcript of `length` bytes from any k nodes.

@@ -10,3 +10,5 @@ pub mod FirstStep
 pub mod SecondStep
 pub mod Layouts
 pub mod Passes
+pub mod Placing
+pub mod Wire

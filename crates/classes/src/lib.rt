@@ -15,7 +15,7 @@ ghost use Rattle.lists.specs.Digits.{bit, flip};
 ghost use Rattle.shape.specs.Shape.{mostNodes, size};
 ghost use Rattle.shape.specs.Refusals.{shapeBad};
 ghost use Rattle.classes.specs.Classes.{batch, classOf, rankClass, partner, placeOf, inClass, placeAt};
-ghost use Rattle.classes.specs.Steps.{addedAt};
+ghost use Rattle.classes.specs.Steps.{addedAt, place};
 ghost use Rattle.classes.specs.Layout.{Ready};
 ghost use Rattle.code.specs.Code.{narrow};
 ghost use Rattle.lists.specs.Lists.{member, position, rising};
@@ -207,4 +207,12 @@ pub fn rank_of(g: Layout, dead: &[usize], new: usize) -> usize
         u += 1;
     }
     0
+}
+
+// Where rank v stands among the ranks but u.
+pub fn among(u: usize, v: usize) -> usize
+    requires { ⌜ (v ≡ u → ⊥) ⌝ }
+    ensures { λ r. ⌜ r ≡ place u v ⌝ }
+{
+    if v < u { v } else { v - 1 }
 }

@@ -141,7 +141,7 @@ fn mixed_check(h: u64, answer: Checked) -> u64 {
 
 // All nodes from those listed.
 fn restored(s: Shape, list: &[usize], symbols: &[u16], back: &mut [u16]) -> u64 {
-    mixed_symbols(number(code::restore(s, list, symbols, back)), back)
+    mixed_symbols(number(restoring::restore(s, list, symbols, back)), back)
 }
 
 // The transcript from the listed nodes.

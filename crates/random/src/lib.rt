@@ -154,7 +154,7 @@ pub fn picked(roles: &[usize], role: usize) -> [usize; 12]
 fn codeword(s: Shape, seed: u64, symbols: &mut [u16], word: &mut [u16]) -> u64 {
     let all = ALL;
     fill_symbols(1, seed, symbols);
-    number(code::restore(s, front_nodes(&all, s.k), symbols, word))
+    number(restoring::restore(s, front_nodes(&all, s.k), symbols, word))
 }
 
 // Fills an archive, with a buffer for its data symbols: 0, or the number of a cause.

@@ -20,15 +20,15 @@ use Rattle.shape.specs.Shape.{size}
 use Rattle.code.specs.Code.{narrow}
 use Rattle.classes.specs.Classes.{node, messageSize}
 use Rattle.classes.specs.Steps.{added, place, otherRank, exchangeAt, exchange, solved, ownPairs, contents}
-use Rattle.repair.specs.Whole.{fromHelpers, fromSender, fromDead, wire, renewed, repairedSymbol, repaired}
-use Rattle.steps.specs.Solving.{slotOf}
-use Rattle.repair.specs.Wires.{inward, inwards, toRank, Messaged, Wired, Exchanged, fromOthers, Renewed}
+use Rattle.classes.specs.Whole.{fromHelpers, fromSender, fromDead, wire, renewed, repairedSymbol, repaired}
+use Rattle.solving.specs.Solving.{slotOf}
+use Rattle.wiring.specs.Wires.{inward, inwards, toRank, Messaged, Wired, Exchanged, fromOthers, Renewed}
 use Rattle.classes.proofs.Dead.{Dead, Accepted, dead-of}
 use Rattle.classes.proofs.FirstStep.{exchange-length}
-use Rattle.repair.proofs.Wire.{helpers-at}
+use Rattle.classes.proofs.Wire.{helpers-at}
 use Rattle.classes.proofs.Passes.{messageAt, message-table}
-use Rattle.steps.proofs.Sending.{other-is}
-use Rattle.repair.proofs.OnWire.{helpers-length}
+use Rattle.solving.proofs.Sending.{other-is}
+use Rattle.wiring.proofs.OnWire.{helpers-length}
 
 -- a list of n times m elements by its rows
 is-flat : (n m : ℕ) (f : ℕ → List ℕ) (l : List ℕ) → ((i : ℕ) → length (f i) ≡ m) → length l ≡ n * m → ((i x : ℕ) → i < n → x < m → getD l (i * m + x) 0 ≡ getD (f i) x 0) → l ≡ flat n f

@@ -6,7 +6,7 @@ use lib.ListN.{length}
 use Rattle.shape.specs.declared.Shape.{Shape}
 use Rattle.shape.proofs.Accepted.{repair-accepted}
 use Rattle.classes.specs.Classes.{messageSize}
-use Rattle.steps.specs.Solving.{Helped}
+use Rattle.solving.specs.Solving.{Helped}
 use Rattle.judging.proofs.Judged.{FirstPassed}
 
 pub first-helped : (s : Shape) (dead helpers : List ℕ) (new : ℕ) (messages : List ℕ) (pairs sums u : ℕ)

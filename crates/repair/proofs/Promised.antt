@@ -8,7 +8,7 @@ use Rattle.shape.specs.declared.Answer.the-variants.{Done}
 use Rattle.shape.proofs.Answers.{afterwards-done}
 use Rattle.code.specs.Code.{narrow}
 use Rattle.judging.specs.Refusals.{wholeRefusal}
-use Rattle.repair.specs.Whole.{wire, repaired, WholeRepair}
+use Rattle.classes.specs.Whole.{wire, repaired, WholeRepair}
 use Rattle.repair.specs.Promises.{Alike, Repaired}
 use Rattle.repair.proofs.Whole.{whole-accepted, helper-sends-own, new-node-sends-by-helpers, new-node-ends-by-messages}
 

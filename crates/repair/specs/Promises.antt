@@ -10,8 +10,8 @@ use Rattle.shape.specs.declared.Answer.{Answer}
 use Rattle.shape.specs.Refusals.{answerNumber, afterwards}
 use Rattle.code.specs.Code.{narrow}
 use Rattle.classes.specs.Classes.{node, messageSize}
-use Rattle.repair.specs.Whole as Whole
-use Rattle.repair.specs.Whole.{repaired, WholeRepair}
+use Rattle.classes.specs.Whole as Whole
+use Rattle.classes.specs.Whole.{repaired, WholeRepair}
 use Rattle.classes.specs.Steps.{place, helperMessage, ownPairs, exchanges, contents}
 use Rattle.judging.specs.Refusals.{messageRefusal, firstStepRefusal, secondStepRefusal, wholeRefusal}
 

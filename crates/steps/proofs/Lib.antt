@@ -1,8 +1,4 @@
--- Laws of what the functions of one rank store and send, lowest first.
+-- Laws of what a new node stores and gets from the others, lowest first.
 pub mod Storing
 pub mod Providers
 pub mod Recovery
-pub mod Placing
-pub mod Slots
-pub mod Solving
-pub mod Sending

@@ -1,3 +1,2 @@
--- What the functions of one rank promise: pairs stored and ranks crossed, sums solved and handed out.
+-- What is promised of a message and of a second step: pairs stored, and ranks crossed.
 pub mod Storing
-pub mod Solving

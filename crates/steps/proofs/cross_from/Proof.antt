@@ -10,7 +10,7 @@ use Rattle.lists.proofs.Buffers.{part-of}
 use Rattle.code.specs.Code.{narrow}
 use Rattle.classes.specs.Classes.{messageSize}
 use Rattle.steps.specs.Storing.{sentBy}
-use Rattle.steps.proofs.Placing.{place-below}
+use Rattle.classes.proofs.Placing.{place-below}
 use Rattle.classes.proofs.Layouts.{ready-dead}
 use Rattle.steps.proofs.Storing.{crossed-sums}
 use Rattle.steps.proofs.cross_from.Statement.{statement}

@@ -15,7 +15,7 @@ use Rattle.code.specs.Code.{narrow}
 use Rattle.code.specs.Archive.{written}
 use Rattle.code.proofs.Written.{padding, padded-length, written-given}
 use Rattle.code.proofs.Accepted.{WriteAccepted, write-accepted}
-use Rattle.code.proofs.Restoring.{never, gathered-placing, RestoredTo, restored-more, restored-end}
+use Rattle.restoring.proofs.Restoring.{never, gathered-placing, RestoredTo, restored-more, restored-end}
 use Rattle.code.proofs.Writing.{first-nodes, gathered-padding}
 use Rattle.transcript.proofs.write_all.Statement.{statement}
 use Rattle.transcript.proofs.write_all.Tie as tie

@@ -1,0 +1,3 @@
+-- Laws of restoring, lowest first.
+pub mod Completing
+pub mod Restoring

@@ -1,0 +1,2 @@
+-- What is promised of the functions inside restoring.
+pub mod Steps

@@ -1,0 +1,79 @@
+-- Which message is whose among those that new nodes hand out; and the points of a first step's entries.
+use mathlib.Core.Path.{_≡_, sym, ap, ap₂, _∙_}
+use mathlib.Core.Logic.{_≢_, _⊎_, inl, inr}
+use mathlib.Core.Bool.{Bool, true, false}
+use mathlib.Core.List.{List}
+use Prim.Native.Nat.{ℕ, _+_, _*_, _-_, _/_, _%_, _≤_, _<_}
+use native.Mathlib.Nat.{mul-le-mul}
+use native.Mathlib.Omega.{arith}
+use lib.Arith.{digits-lt, digits-div, digits-mod}
+use lib.ListN.{length, getD, set, take, length-set}
+use lib.Seq.{ext-getD, getD-take, getD-set-same, getD-set-other, length-take-le}
+use Rattle.lists.proofs.Tests.{below-or-not}
+use Rattle.column.specs.Solving.{mostEntries}
+use Rattle.code.specs.Code.{narrow, point, morePoints}
+use Rattle.code.proofs.NodePoints.{more-length, more-at, more-behind}
+use Rattle.classes.specs.Steps.{place, otherRank}
+use Rattle.solving.specs.Solving.{MorePoints, slotOf, slots}
+use Rattle.classes.proofs.Placing.{place-below, other-place}
+
+module _ (h u : ℕ) (l : u < h) where
+  pub slot-lt : (all : Bool) (v : ℕ) → v < h → v ≢ u → slotOf all h u v < slots all h
+  unfolding slotOf slots
+  slot-lt true v m d = digits-lt m (place-below h v u m l (λ e. d (sym e)))
+  slot-lt false v m d = place-below h u v l m d
+
+  -- no two ranks have one message
+  pub slot-own : (all : Bool) (v w : ℕ) → v < h → w < h → v ≢ u → w ≢ u → slotOf all h u v ≡ slotOf all h u w → v ≡ w
+  unfolding slotOf
+  slot-own true v w m n d f e =
+      sym (digits-div v (place-below h v u m l (λ z. d (sym z)))) ∙ ap (λ z. z / (h - 1)) e ∙ digits-div w (place-below h w u n l (λ z. f (sym z)))
+  slot-own false v w m n d f e = sym (other-place h u v l m d) ∙ ap (otherRank u) e ∙ other-place h u w l n f
+
+  -- symbols of messages of M symbols stand apart
+  pub slot-symbol-own : (all : Bool) (M v x w y : ℕ) → v < h → w < h → v ≢ u → w ≢ u → x < M → y < M
+      → slotOf all h u v * M + x ≡ slotOf all h u w * M + y → (v ≡ w) × (x ≡ y)
+  slot-symbol-own all M v x w y m n d f k q e = (
+    slot-own all v w m n d f (sym (digits-div (slotOf all h u v) k) ∙ ap (λ z. z / M) e ∙ digits-div (slotOf all h u w) q),
+    sym (digits-mod (slotOf all h u v) k) ∙ ap (λ z. z % M) e ∙ digits-mod (slotOf all h u w) q,
+  )
+
+  pub slot-symbol-lt : (all : Bool) (M v x : ℕ) → v < h → v ≢ u → x < M → slotOf all h u v * M + x < slots all h * M
+  slot-symbol-lt all M v x m d k = digits-lt (slot-lt all v m d) k
+
+-- among all exchanges, the messages of two senders stand apart
+pub senders-apart : (h M u v x t w y : ℕ) → u < h → v < h → v ≢ u → t < h → w < h → w ≢ t → x < M → y < M
+    → slotOf true h u v * M + x ≡ slotOf true h t w * M + y → u ≡ t
+unfolding slotOf
+senders-apart h M u v x t w y a b d e f g k l q =
+    let s : v * (h - 1) + place v u ≡ w * (h - 1) + place w t = sym (digits-div (v * (h - 1) + place v u) k) ∙ ap (λ z. z / M) q ∙ digits-div (w * (h - 1) + place w t) l in
+    let p = place-below h v u b a (λ z. d (sym z)) in
+    let r = place-below h w t f e (λ z. g (sym z)) in
+    let same : v ≡ w = sym (digits-div v p) ∙ ap (λ z. z / (h - 1)) s ∙ digits-div w r in
+    let at : place v u ≡ place w t = sym (digits-mod v p) ∙ ap (λ z. z % (h - 1)) s ∙ digits-mod w r in
+    sym (other-place h v u b a (λ z. d (sym z))) ∙ ap₂ otherRank same at ∙ other-place h w t f e (λ z. g (sym z))
+
+-- there are few messages
+pub slots-few : (all : Bool) (h : ℕ) → h ≤ 12 → slots all h ≤ 144
+unfolding slots
+slots-few true h l = mul-le-mul {n₂ = 12} {m₂ = 12} l (omega arith)
+slots-few false h l = omega arith
+
+-- the points of the n + 1 entries, the last stored behind the others
+pub more-points : (n a i : ℕ) (out : List ℕ) (v : ℕ) → length out ≡ mostEntries → n < mostEntries → i < n
+    → ((k : ℕ) → k < n → getD out k 0 ≡ point narrow a k) → v ≡ narrow .modulus - point narrow a i → MorePoints n a i (set out n v)
+more-points n a i out v e h l each q = record {
+  long = length-set out n v ∙ e;
+  whole = ext-getD 0 (take (n + 1) (set out n v)) (morePoints narrow n a i) (long ∙ sym (more-length narrow n a i ∙ omega arith)) (λ k m. go k (omega (arith, long)) (below-or-not k n));
+}
+  where
+    long : length (take (n + 1) (set out n v)) ≡ n + 1
+    long = length-take-le (n + 1) (set out n v) (rw (length-set out n v) (omega (arith, e)))
+
+    go : (k : ℕ) → k < n + 1 → (k < n) ⊎ (n ≤ k) → getD (take (n + 1) (set out n v)) k 0 ≡ getD (morePoints narrow n a i) k 0
+    go k m (inl b) =
+        getD-take (n + 1) (set out n v) k 0 m ∙ getD-set-other out n k v 0 (λ z. omega arith) ∙ each k b ∙ sym (more-at narrow n a i k b)
+    go k m (inr b) =
+        let z : k ≡ n = omega arith in
+        getD-take (n + 1) (set out n v) k 0 m ∙ ap (λ y. getD (set out n v) y 0) z ∙ getD-set-same out n v 0 (omega (arith, e)) ∙ q
+        ∙ sym (ap (λ y. getD (morePoints narrow n a i) y 0) z ∙ more-behind narrow n a i l)

@@ -1,0 +1,2 @@
+-- What is promised of a first step: sums solved and handed out.
+pub mod Solving

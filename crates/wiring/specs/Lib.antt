@@ -1,0 +1,2 @@
+-- What is promised of the work on the wire buffer.
+pub mod Wires
