@@ -1,8 +1,8 @@
 // Transcripts: written into the n nodes of an archive, and opened from any k of them (demand 2).
 use code::MODULUS;
+use column::Outcome;
 use restoring::restore_place;
 use restoring::restored_at;
-use column::Outcome;
 use shape::Answer;
 use shape::MOST_NODES;
 use shape::Refusal;

@@ -57,7 +57,14 @@ fn messages_to(
 }
 
 // The helpers' messages to every rank: "by receiver then sender".
-pub fn send(g: Layout, dead: &[usize], helpers: &[usize], told: usize, nodes: &[u16], wire: &mut [u16])
+pub fn send(
+    g: Layout,
+    dead: &[usize],
+    helpers: &[usize],
+    told: usize,
+    nodes: &[u16],
+    wire: &mut [u16],
+)
     requires { ⌜ (Ready (now dead) g) × (told ≡ inward (g .shape) (now dead)) × (rising 0 (g .shape .n) (now helpers) ≡ true) × (length (now helpers) ≡ g .shape .k + 1) ⌝ }
     requires { ⌜ (length (now nodes) ≡ g .shape .n * size (g .shape)) × (inwards (g .shape) (now dead) ≤ length (now wire)) ⌝ }
     ensures { λ _. ⌜ Messaged (g .shape) (now (dead .entry)) (now (helpers .entry)) (now (nodes .entry)) (now (wire .entry)) (now (wire .exit)) ⌝ }
