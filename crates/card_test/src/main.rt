@@ -263,11 +263,8 @@ fn length_of(answer: Packed) -> usize {
     }
 }
 
-fn all_but_last(bytes: &[u8]) -> &[u8] {
-    if bytes.len() == 0 {
-        return bytes;
-    }
-    front(bytes, bytes.len() - 1)
+fn one_less(n: usize) -> usize {
+    if n == 0 { 0 } else { n - 1 }
 }
 
 // The length of a card of n = 12 and L = 15, whose symbols take every value.
@@ -277,19 +274,14 @@ fn pack_largest(symbols: &mut [u16], card: &mut [u8]) -> usize {
 }
 
 // A card unpacked, and unpacked again with its last byte cut off.
-fn unpacked_twice(t: Tally, card: &[u8], back: &mut [u16]) -> Tally {
-    unpacked_into(
-        unpacked_into(t, card, back, 61440),
-        all_but_last(card),
-        back,
-        61440,
-    )
+fn unpacked_twice(t: Tally, card: &[u8], long: usize, back: &mut [u16]) -> Tally {
+    let whole = unpacked_into(t, front(card, long), back, 61440);
+    unpacked_into(whole, front(card, one_less(long)), back, 61440)
 }
 
 fn largest_in(symbols: &mut [u16], card: &mut [u8], back: &mut [u16]) -> Tally {
     let long = pack_largest(symbols, card);
-    let t = taken_bytes(taken(nothing(), long), card);
-    unpacked_twice(t, front(card, long), back)
+    unpacked_twice(taken_bytes(taken(nothing(), long), card), card, long, back)
 }
 
 fn largest() -> Tally {
@@ -299,13 +291,17 @@ fn largest() -> Tally {
     largest_in(&mut symbols, &mut card, &mut back)
 }
 
-fn main() {
+fn unpack_groups() {
     run(b"cut", 0, 16);
     run(b"changed", 1, 3840);
     run(b"twice", 9, 1296);
     run(b"rooms", 2, 25);
     run(b"formed", 3, 41472);
     run(b"headed", 4, 24375);
+}
+
+fn main() {
+    unpack_groups();
     run(b"placed", 5, 45360);
     run(b"paired", 6, 65536);
     run(b"pack-headed", 7, 97500);

@@ -4,11 +4,11 @@ use code::Checked;
 use shape::Shape;
 use shape::number_of;
 use tally::all_symbols;
+use tally::buffer_part;
 use tally::data_symbols;
 use tally::end_line;
 use tally::fill_symbols;
 use tally::front_nodes;
-use tally::least;
 use tally::mixed;
 use tally::mixed_bytes;
 use tally::mixed_symbols;
@@ -25,32 +25,37 @@ ghost use mathlib.Core.Path.{_≡_};
 ghost use Prim.Native.Nat.{_<_};
 ghost use lib.ListN.{length};
 
-// The shapes tried: n, k, layers and the transcript's length.
+// The shapes tried: n, k, layers and the transcript's length, as the digits of one number.
 const CASES: usize = 21;
 
-const SHAPES: [[usize; 4]; CASES] = [
-    [3, 1, 1, 0],
-    [3, 1, 1, 2],
-    [3, 1, 1, 8],
-    [3, 1, 15, 100],
-    [4, 1, 3, 48],
-    [4, 2, 2, 37],
-    [5, 1, 1, 32],
-    [5, 3, 2, 191],
-    [6, 1, 2, 64],
-    [6, 4, 3, 700],
-    [7, 2, 1, 256],
-    [7, 5, 1, 1],
-    [8, 5, 15, 19200],
-    [9, 1, 1, 512],
-    [9, 7, 1, 3584],
-    [10, 4, 1, 3000],
-    [11, 9, 2, 36864],
-    [12, 1, 1, 4095],
-    [12, 6, 1, 20000],
-    [12, 10, 1, 40960],
-    [12, 7, 15, 430000],
+const SHAPES: [usize; CASES] = [
+    3_01_01_000000,
+    3_01_01_000002,
+    3_01_01_000008,
+    3_01_15_000100,
+    4_01_03_000048,
+    4_02_02_000037,
+    5_01_01_000032,
+    5_03_02_000191,
+    6_01_02_000064,
+    6_04_03_000700,
+    7_02_01_000256,
+    7_05_01_000001,
+    8_05_15_019200,
+    9_01_01_000512,
+    9_07_01_003584,
+    10_04_01_003000,
+    11_09_02_036864,
+    12_01_01_004095,
+    12_06_01_020000,
+    12_10_01_040960,
+    12_07_15_430000,
 ];
+
+// The steps of a case, from step 0: an archive written, two subsets, two damages, a subset, and any symbols.
+const STEPS: usize = 7;
+
+const ANY: usize = 6;
 
 // The most symbols of all nodes, and of the data nodes.
 const MOST: usize = 737280;
@@ -118,8 +123,7 @@ fn held(list: &[usize], places: usize, nodes: &[u16], e: usize) -> u16 {
     if place < nodes.len() { nodes[place] } else { 0 }
 }
 
-fn gather(s: Shape, list: &[usize], nodes: &[u16], symbols: &mut [u16]) {
-    let places = places_of(s);
+fn gather(places: usize, list: &[usize], nodes: &[u16], symbols: &mut [u16]) {
     let mut e = 0;
     while e < symbols.len() {
         symbols[e] = held(list, places, nodes, e);
@@ -139,9 +143,35 @@ fn mixed_check(h: u64, answer: Checked) -> u64 {
     }
 }
 
-// All nodes from those listed.
-fn restored(s: Shape, list: &[usize], symbols: &[u16], back: &mut [u16]) -> u64 {
-    mixed_symbols(number(restoring::restore(s, list, symbols, back)), back)
+// A check's answer in a digest.
+fn checked(h: u64, s: Shape, nodes: &[u16]) -> u64 {
+    mixed_check(h, code::check(s, nodes))
+}
+
+// What is handed in: any symbols, or those of the listed nodes.
+fn hand_in(s: Shape, any: bool, seed: u64, list: &[usize], nodes: &[u16], symbols: &mut [u16]) {
+    if any {
+        fill_symbols(2, seed, symbols)
+    } else {
+        gather(places_of(s), list, nodes, symbols)
+    }
+}
+
+// All nodes from those listed; of any symbols they are checked too.
+fn restored_in(s: Shape, any: bool, list: &[usize], symbols: &[u16], back: &mut [u16]) -> u64 {
+    let h = mixed_symbols(number(restoring::restore(s, list, symbols, back)), back);
+    if any { checked(h, s, back) } else { h }
+}
+
+fn restored(s: Shape, any: bool, list: &[usize], symbols: &[u16]) -> u64 {
+    let mut back = [7u16; MOST];
+    restored_in(
+        s,
+        any,
+        list,
+        symbols,
+        buffer_part(&mut back, all_symbols(s)),
+    )
 }
 
 // The transcript from the listed nodes.
@@ -151,28 +181,33 @@ fn opened(h: u64, s: Shape, list: &[usize], symbols: &[u16], text: &mut [u8]) ->
     mixed_bytes(mixed(h, answer), text)
 }
 
-// All nodes and the transcript from k of the nodes.
-fn subset(
-    s: Shape,
-    seed: u64,
-    nodes: &[u16],
-    symbols: &mut [u16],
-    back: &mut [u16],
-    text: &mut [u8],
-) {
-    let all = picked(seed, s.n, s.k);
-    let list = front_nodes(&all, s.k);
-    gather(s, list, nodes, symbols);
-    print(opened(restored(s, list, symbols, back), s, list, symbols, text));
+// The digest of a subset, which ends the line for any symbols.
+fn print_step(any: bool, h: u64) {
+    print(h);
+    if any {
+        end_line();
+    }
 }
 
-// The codeword that has any symbols at k of the nodes: restored, checked and opened.
-fn anything(s: Shape, seed: u64, symbols: &mut [u16], back: &mut [u16], text: &mut [u8]) {
+// All nodes and the transcript from k of the nodes: as they are, or the codeword that has any symbols there.
+fn subset_in(s: Shape, any: bool, seed: u64, nodes: &[u16], symbols: &mut [u16], text: &mut [u8]) {
     let all = picked(seed, s.n, s.k);
     let list = front_nodes(&all, s.k);
-    fill_symbols(2, seed, symbols);
-    let h = restored(s, list, symbols, back);
-    print(opened(mixed_check(h, code::check(s, back)), s, list, symbols, text));
+    hand_in(s, any, seed, list, nodes, symbols);
+    let h = restored(s, any, list, symbols);
+    print_step(any, opened(h, s, list, symbols, text));
+}
+
+fn subset(s: Shape, any: bool, seed: u64, nodes: &[u16], text: &mut [u8]) {
+    let mut symbols = [0u16; MOST_DATA];
+    subset_in(
+        s,
+        any,
+        seed,
+        nodes,
+        buffer_part(&mut symbols, data_symbols(s)),
+        text,
+    );
 }
 
 // Another symbol.
@@ -196,101 +231,78 @@ fn damaged(s: Shape, seed: u64, nodes: &mut [u16]) {
     }
     let at = remainder((x * 65521 + y) as usize, nodes.len());
     nodes[at] = changed(nodes[at], y);
-    print(mixed_check(0, code::check(s, nodes)));
+    print(checked(0, s, nodes));
 }
 
-// A transcript written and checked; other bytes are left in its place.
+// The start of a line: a transcript written and checked; other bytes are left in its place.
 fn written(s: Shape, seed: u64, nodes: &mut [u16], text: &mut [u8]) {
+    print_shape(s);
+    print(text.len() as u64);
     fill_bytes(seed, text);
     let answer = number(transcript::write(s, text, nodes));
     print(mixed_symbols(answer, nodes));
-    print(mixed_check(0, code::check(s, nodes)));
+    print(checked(0, s, nodes));
     fill_bytes(next(seed), text);
 }
 
-// An archive written, and restored and opened from two subsets.
-fn intact(
-    s: Shape,
-    seed: u64,
-    nodes: &mut [u16],
-    symbols: &mut [u16],
-    back: &mut [u16],
-    text: &mut [u8],
-) {
-    let second = next(seed);
-    written(s, seed, nodes, text);
-    subset(s, second, nodes, symbols, back, text);
-    subset(s, next(second), nodes, symbols, back, text);
+// The seed of step i.
+fn seed_at(i: usize) -> u64 {
+    let seed = (i / STEPS % CASES + 1) as u64;
+    match i % STEPS {
+        1 | 4 => next(seed),
+        2 => next(next(seed)),
+        _ => seed,
+    }
 }
 
-// It damaged twice, and restored and opened again.
-fn spoiled(
-    s: Shape,
-    seed: u64,
-    nodes: &mut [u16],
-    symbols: &mut [u16],
-    back: &mut [u16],
-    text: &mut [u8],
-) {
-    damaged(s, seed, nodes);
-    damaged(s, next(seed), nodes);
-    subset(s, seed, nodes, symbols, back, text);
-}
-
-// The line of one archive.
-fn archive(
-    s: Shape,
-    seed: u64,
-    nodes: &mut [u16],
-    symbols: &mut [u16],
-    back: &mut [u16],
-    text: &mut [u8],
-) {
-    intact(s, seed, nodes, symbols, back, text);
-    spoiled(s, seed, nodes, symbols, back, text);
-    anything(s, seed, symbols, back, text);
-    end_line();
-}
-
-fn shape_number(c: usize, j: usize) -> usize {
-    let shape = SHAPES[c % CASES];
-    shape[j % 4]
+// Step i, of an archive of the shape.
+fn step(s: Shape, i: usize, nodes: &mut [u16], text: &mut [u8]) {
+    let seed = seed_at(i);
+    match i % STEPS {
+        0 => written(s, seed, nodes, text),
+        3 | 4 => damaged(s, seed, nodes),
+        _ => subset(s, i % STEPS == ANY, seed, nodes, text),
+    }
 }
 
 fn shape_at(c: usize) -> Shape {
-    shape_of(shape_number(c, 0), shape_number(c, 1), shape_number(c, 2))
+    let x = SHAPES[c % CASES];
+    shape_of(x / 10000000000, x / 100000000 % 100, x / 1000000 % 100)
 }
 
-// Case c, in the parts of the buffers that its shape asks for.
-fn case(c: usize, nodes: &mut [u16], symbols: &mut [u16], back: &mut [u16], text: &mut [u8]) {
-    let s = shape_at(c);
-    let total = least(all_symbols(s), least(nodes.len(), back.len()));
-    let data = least(data_symbols(s), symbols.len());
-    let length = least(shape_number(c, 3), text.len());
-    print_shape(s);
-    print(length as u64);
-    archive(
+fn length_at(c: usize) -> usize {
+    SHAPES[c % CASES] % 1000000
+}
+
+// The first n bytes of a buffer.
+fn part_bytes(bytes: &mut [u8], n: usize) -> &mut [u8] {
+    if bytes.len() < n {
+        bytes
+    } else {
+        &mut bytes[0..n]
+    }
+}
+
+// Step i, in the parts of the buffers that its shape asks for.
+fn case(i: usize, nodes: &mut [u16], text: &mut [u8]) {
+    let s = shape_at(i / STEPS);
+    let length = length_at(i / STEPS);
+    step(
         s,
-        (c % CASES + 1) as u64,
-        &mut nodes[0..total],
-        &mut symbols[0..data],
-        &mut back[0..total],
-        &mut text[0..length],
+        i,
+        buffer_part(nodes, all_symbols(s)),
+        part_bytes(text, length),
     );
 }
 
-fn cases(nodes: &mut [u16], symbols: &mut [u16], back: &mut [u16], text: &mut [u8]) {
-    let mut c = 0;
-    while c < CASES {
-        case(c, nodes, symbols, back, text);
-        c += 1;
+fn cases(nodes: &mut [u16], text: &mut [u8]) {
+    for i in 0..CASES * STEPS {
+        case(i, nodes, text);
     }
 }
 
 fn main() {
     let mut nodes = [0u16; MOST];
-    let mut symbols = [0u16; MOST_DATA];
-    let mut back = [0u16; MOST];
     let mut text = [0u8; MOST_DATA];
-    cases(&mut nodes, &mut symbols, &mut back, &mut text);
+    cases(&mut nodes, &mut text);
 }

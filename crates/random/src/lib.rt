@@ -1,9 +1,9 @@
 // Random archives, codewords or not, and the roles of their nodes in a repair, for the tests of repairs.
 use shape::Shape;
+use tally::buffer_part;
 use tally::data_symbols;
 use tally::fill_symbols;
 use tally::front_nodes;
-use tally::least;
 use tally::next;
 use tally::number;
 use tally::places_of;
@@ -164,6 +164,5 @@ pub fn filled(r: Trial, seed: u64, symbols: &mut [u16], word: &mut [u16]) -> u64
         return 0;
     }
     let s = r.shape;
-    let data = least(data_symbols(s), symbols.len());
-    codeword(s, seed, &mut symbols[0..data], word)
+    codeword(s, seed, buffer_part(symbols, data_symbols(s)), word)
 }

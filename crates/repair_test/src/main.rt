@@ -14,9 +14,9 @@ use random::trial_of;
 use random::wire_symbols;
 use shape::Shape;
 use tally::all_symbols;
+use tally::buffer_part;
 use tally::end_line;
 use tally::front_nodes;
-use tally::least;
 use tally::mixed;
 use tally::mixed_symbols;
 use tally::number;
@@ -33,49 +33,49 @@ const MOST_WIRE: usize = 614400;
 // The numbers of small shapes looked at: n up to 8, k and h below 8.
 const SHAPES: usize = 512;
 
-// Larger shapes: n, k, h, L, how many random repairs, and 1 for a codeword or 0 for any symbols.
+// Larger shapes: n, k, h, L, how many random repairs, and 1 for a codeword or 0 for any symbols, as the digits of one number.
 const CASES: usize = 39;
 
-const LARGE: [[usize; 6]; CASES] = [
-    [9, 5, 2, 3, 5, 1],
-    [9, 4, 4, 5, 5, 1],
-    [9, 3, 5, 3, 5, 1],
-    [9, 2, 6, 7, 5, 1],
-    [9, 1, 7, 1, 5, 1],
-    [10, 7, 2, 3, 4, 1],
-    [10, 5, 4, 5, 4, 1],
-    [10, 4, 5, 3, 4, 1],
-    [10, 1, 8, 9, 3, 1],
-    [11, 9, 1, 1, 4, 1],
-    [11, 4, 3, 1, 4, 1],
-    [11, 3, 6, 7, 3, 1],
-    [11, 1, 9, 5, 3, 1],
-    [12, 10, 1, 1, 4, 1],
-    [12, 8, 3, 1, 4, 1],
-    [12, 6, 3, 1, 4, 1],
-    [12, 4, 7, 1, 4, 1],
-    [12, 3, 8, 9, 2, 1],
-    [12, 1, 10, 11, 2, 1],
-    [3, 1, 1, 15, 3, 1],
-    [5, 2, 2, 15, 5, 1],
-    [6, 1, 3, 15, 5, 1],
-    [7, 2, 4, 15, 5, 1],
-    [8, 2, 5, 15, 5, 1],
-    [10, 2, 7, 15, 3, 1],
-    [11, 1, 9, 15, 2, 1],
-    [12, 10, 1, 15, 2, 1],
-    [12, 2, 9, 15, 2, 1],
-    [3, 1, 1, 1, 3, 0],
-    [4, 1, 2, 3, 6, 0],
-    [5, 1, 3, 2, 5, 0],
-    [6, 2, 2, 6, 5, 0],
-    [7, 1, 4, 15, 5, 0],
-    [8, 2, 5, 6, 5, 0],
-    [9, 1, 6, 14, 3, 0],
-    [10, 2, 7, 4, 3, 0],
-    [11, 2, 8, 9, 2, 0],
-    [12, 1, 10, 11, 1, 0],
-    [12, 5, 5, 15, 1, 0],
+const LARGE: [usize; CASES] = [
+    9_05_02_03_5_1,
+    9_04_04_05_5_1,
+    9_03_05_03_5_1,
+    9_02_06_07_5_1,
+    9_01_07_01_5_1,
+    10_07_02_03_4_1,
+    10_05_04_05_4_1,
+    10_04_05_03_4_1,
+    10_01_08_09_3_1,
+    11_09_01_01_4_1,
+    11_04_03_01_4_1,
+    11_03_06_07_3_1,
+    11_01_09_05_3_1,
+    12_10_01_01_4_1,
+    12_08_03_01_4_1,
+    12_06_03_01_4_1,
+    12_04_07_01_4_1,
+    12_03_08_09_2_1,
+    12_01_10_11_2_1,
+    3_01_01_15_3_1,
+    5_02_02_15_5_1,
+    6_01_03_15_5_1,
+    7_02_04_15_5_1,
+    8_02_05_15_5_1,
+    10_02_07_15_3_1,
+    11_01_09_15_2_1,
+    12_10_01_15_2_1,
+    12_02_09_15_2_1,
+    3_01_01_01_3_0,
+    4_01_02_03_6_0,
+    5_01_03_02_5_0,
+    6_02_02_06_5_0,
+    7_01_04_15_5_0,
+    8_02_05_06_5_0,
+    9_01_06_14_3_0,
+    10_02_07_04_3_0,
+    11_02_08_09_2_0,
+    12_01_10_11_1_0,
+    12_05_05_15_1_0,
 ];
 
 // Repairs that were exact, and the digest of their wires, and of the nodes where the archive is no codeword.
@@ -231,16 +231,19 @@ fn repairs(
     t
 }
 
-// The rest of a line: the answer to filling the archive, the exact repairs and the digest.
+// The rest of a line: the answer to filling the archive, the exact repairs and the digest, in the parts of the buffers that the shape asks for.
 fn line(
     r: Trial,
     fill: u64,
     seed: u64,
     last: usize,
-    word: &mut [u16],
-    nodes: &mut [u16],
-    wire: &mut [u16],
+    words: &mut [u16],
+    all: &mut [u16],
+    wires: &mut [u16],
 ) {
+    let word = buffer_part(words, all_symbols(r.shape));
+    let nodes = buffer_part(all, all_symbols(r.shape));
+    let wire = buffer_part(wires, wire_symbols(r));
     print(filled(r, fill, nodes, word));
     let t = repairs(r, seed, last, word, nodes, wire);
     print(t.exact);
@@ -248,27 +251,11 @@ fn line(
     end_line();
 }
 
-// It, in the parts of the buffers that the shape asks for.
-fn case(
-    r: Trial,
-    fill: u64,
-    seed: u64,
-    last: usize,
-    word: &mut [u16],
-    nodes: &mut [u16],
-    wire: &mut [u16],
-) {
-    let total = least(all_symbols(r.shape), least(word.len(), nodes.len()));
-    let length = least(wire_symbols(r), wire.len());
-    line(
-        r,
-        fill,
-        seed,
-        last,
-        &mut word[0..total],
-        &mut nodes[0..total],
-        &mut wire[0..length],
-    );
+fn case(r: Trial, fill: u64, seed: u64, last: usize) {
+    let mut words = [0u16; MOST];
+    let mut all = [0u16; MOST];
+    let mut wires = [7u16; MOST_WIRE];
+    line(r, fill, seed, last, &mut words, &mut all, &mut wires);
 }
 
 // The least number of layers for h dead nodes: the odd part of h + 1.
@@ -295,7 +282,7 @@ fn three_to(n: usize) -> usize {
 }
 
 // Shape number c and its number of dead nodes, where "k is 1 to n−2" and h is 1 to n−k−1.
-fn small(c: usize, word: &mut [u16], nodes: &mut [u16], wire: &mut [u16]) {
+fn small(c: usize) {
     let n = c / 64 % 8 + 1;
     let k = c / 8 % 8;
     let h = c % 8;
@@ -306,59 +293,34 @@ fn small(c: usize, word: &mut [u16], nodes: &mut [u16], wire: &mut [u16]) {
     print(k as u64);
     print(h as u64);
     let r = trial_of(n, k, h, layers_for(h), true);
-    case(
-        r,
-        (n * 100 + k * 10 + h) as u64,
-        0,
-        three_to(n),
-        word,
-        nodes,
-        wire,
-    );
-}
-
-fn large_number(c: usize, j: usize) -> usize {
-    let row = LARGE[c % CASES];
-    row[j % 6]
-}
-
-fn trial_at(c: usize) -> Trial {
-    trial_of(
-        large_number(c, 0),
-        large_number(c, 1),
-        large_number(c, 2),
-        large_number(c, 3),
-        large_number(c, 5) == 1,
-    )
+    case(r, (n * 100 + k * 10 + h) as u64, 0, three_to(n));
 }
 
 // Larger shape number c.
-fn large(c: usize, word: &mut [u16], nodes: &mut [u16], wire: &mut [u16]) {
-    let r = trial_at(c);
+fn large(c: usize) {
+    let x = LARGE[c % CASES];
     let seed = (c % CASES + 1) as u64 * 100;
+    let r = trial_of(
+        x / 100000000,
+        x / 1000000 % 100,
+        x / 10000 % 100,
+        x / 100 % 100,
+        x % 10 == 1,
+    );
     print_trial(r);
-    case(r, seed, seed, large_number(c, 4), word, nodes, wire);
+    case(r, seed, seed, x / 10 % 10);
 }
 
-fn one(c: usize, word: &mut [u16], nodes: &mut [u16], wire: &mut [u16]) {
+fn one(c: usize) {
     if c < SHAPES {
-        small(c, word, nodes, wire);
+        small(c);
     } else {
-        large(c - SHAPES, word, nodes, wire);
-    }
-}
-
-fn every(word: &mut [u16], nodes: &mut [u16], wire: &mut [u16]) {
-    let mut c = 0;
-    while c < SHAPES + CASES {
-        one(c, word, nodes, wire);
-        c += 1;
+        large(c - SHAPES);
     }
 }
 
 fn main() {
-    let mut word = [0u16; MOST];
-    let mut nodes = [0u16; MOST];
-    let mut wire = [0u16; MOST_WIRE];
-    every(&mut word, &mut nodes, &mut wire);
+    for c in 0..SHAPES + CASES {
+        one(c);
+    }
 }

@@ -12,6 +12,7 @@ use random::trial_of;
 use random::wire_symbols;
 use shape::Shape;
 use tally::all_symbols;
+use tally::buffer_part;
 use tally::end_line;
 use tally::front_nodes;
 use tally::least;
@@ -29,34 +30,34 @@ const MOST_WIRE: usize = 614400;
 
 const MOST_PLACES: usize = 61440;
 
-// Shapes: n, k, h, L, and 1 for a codeword or 0 for any symbols.
+// Shapes: n, k, h, L, and 1 for a codeword or 0 for any symbols, as the digits of one number.
 const CASES: usize = 24;
 
-const SHAPES: [[usize; 5]; CASES] = [
-    [3, 1, 1, 1, 1],
-    [3, 1, 1, 15, 0],
-    [4, 1, 2, 3, 0],
-    [4, 1, 2, 6, 1],
-    [5, 1, 3, 2, 0],
-    [5, 2, 2, 15, 0],
-    [6, 1, 4, 5, 1],
-    [6, 2, 3, 7, 0],
-    [7, 1, 5, 6, 0],
-    [7, 3, 3, 4, 1],
-    [8, 1, 6, 14, 0],
-    [8, 2, 5, 15, 1],
-    [8, 4, 2, 15, 0],
-    [9, 1, 7, 3, 0],
-    [9, 2, 6, 7, 1],
-    [9, 4, 4, 15, 0],
-    [10, 1, 8, 9, 0],
-    [10, 3, 6, 14, 1],
-    [11, 1, 9, 10, 0],
-    [11, 6, 4, 5, 1],
-    [12, 1, 10, 11, 0],
-    [12, 2, 9, 15, 1],
-    [12, 5, 5, 15, 0],
-    [12, 10, 1, 15, 0],
+const SHAPES: [usize; CASES] = [
+    3_01_01_01_1,
+    3_01_01_15_0,
+    4_01_02_03_0,
+    4_01_02_06_1,
+    5_01_03_02_0,
+    5_02_02_15_0,
+    6_01_04_05_1,
+    6_02_03_07_0,
+    7_01_05_06_0,
+    7_03_03_04_1,
+    8_01_06_14_0,
+    8_02_05_15_1,
+    8_04_02_15_0,
+    9_01_07_03_0,
+    9_02_06_07_1,
+    9_04_04_15_0,
+    10_01_08_09_0,
+    10_03_06_14_1,
+    11_01_09_10_0,
+    11_06_04_05_1,
+    12_01_10_11_0,
+    12_02_09_15_1,
+    12_05_05_15_0,
+    12_10_01_15_0,
 ];
 
 // Sums and nodes that were the same, and the digest of the own pairs.
@@ -192,7 +193,8 @@ fn sums_same(
     same
 }
 
-fn first(
+// How many sums of the first step of the new node of rank u are those of the wire.
+fn first_in(
     s: Shape,
     dead: &[usize],
     helpers: &[usize],
@@ -202,8 +204,52 @@ fn first(
     sums: &mut [u16],
 ) -> u64 {
     let many = helpers.len();
-    let told = messages(wire, times(u, many), many, pairs.len() / 2);
-    number(repair::first_step(s, dead, helpers, node_at(dead, u), told, pairs, sums))
+    let size = pairs.len() / 2;
+    let told = messages(wire, times(u, many), many, size);
+    let answer = number(repair::first_step(s, dead, helpers, node_at(dead, u), told, pairs, sums));
+    sums_same(answer, dead.len(), many, u, size, sums, wire)
+}
+
+fn first(
+    s: Shape,
+    dead: &[usize],
+    helpers: &[usize],
+    u: usize,
+    wire: &[u16],
+    pairs: &mut [u16],
+) -> u64 {
+    let mut sums = [7u16; MOST_PLACES];
+    let many = times(fellows(dead.len()), pairs.len() / 2);
+    first_in(
+        s,
+        dead,
+        helpers,
+        u,
+        wire,
+        pairs,
+        buffer_part(&mut sums, many),
+    )
+}
+
+// 1 for a second step that leaves the new node of rank u as the repair did.
+fn second_in(
+    s: Shape,
+    dead: &[usize],
+    helpers: &[usize],
+    u: usize,
+    nodes: &[u16],
+    wire: &[u16],
+    pairs: &[u16],
+    symbols: &mut [u16],
+) -> u64
+    ensures { λ r. ⌜ r ≤ 1 ⌝ }
+{
+    let many = fellows(dead.len());
+    let from = times(dead.len(), helpers.len()) + times(u, many);
+    let received = messages(wire, from, many, pairs.len() / 2);
+    let new = node_at(dead, u);
+    let answer = number(repair::second_step(s, dead, helpers, new, pairs, received, symbols));
+    equal(answer, symbols, node_of(s, nodes, new))
 }
 
 fn second(
@@ -211,14 +257,15 @@ fn second(
     dead: &[usize],
     helpers: &[usize],
     u: usize,
+    nodes: &[u16],
     wire: &[u16],
     pairs: &[u16],
-    symbols: &mut [u16],
-) -> u64 {
-    let many = fellows(dead.len());
-    let from = times(dead.len(), helpers.len()) + times(u, many);
-    let received = messages(wire, from, many, pairs.len() / 2);
-    number(repair::second_step(s, dead, helpers, node_at(dead, u), pairs, received, symbols))
+) -> u64
+    ensures { λ r. ⌜ r ≤ 1 ⌝ }
+{
+    let mut symbols = [7u16; MOST_PLACES];
+    let part = buffer_part(&mut symbols, places_of(s));
+    second_in(s, dead, helpers, u, nodes, wire, pairs, part)
 }
 
 // Both steps of the new node of rank u.
@@ -230,18 +277,11 @@ fn rank(
     nodes: &[u16],
     wire: &[u16],
     pairs: &mut [u16],
-    sums: &mut [u16],
-    symbols: &mut [u16],
     t: Same,
 ) -> Same {
-    let one = first(s, dead, helpers, u, wire, pairs, sums);
-    let two = second(s, dead, helpers, u, wire, pairs, symbols);
-    let node = node_of(s, nodes, node_at(dead, u));
-    let size = pairs.len() / 2;
     Same {
-        sums: t.sums % 65536
-            + sums_same(one, dead.len(), helpers.len(), u, size, sums, wire) % 65536,
-        nodes: t.nodes % 65536 + equal(two, symbols, node),
+        sums: t.sums % 65536 + first(s, dead, helpers, u, wire, pairs) % 65536,
+        nodes: t.nodes % 65536 + second(s, dead, helpers, u, nodes, wire, pairs),
         pairs: mixed_symbols(t.pairs, pairs),
     }
 }
@@ -253,47 +293,16 @@ fn ranks(
     nodes: &[u16],
     wire: &[u16],
     pairs: &mut [u16],
-    sums: &mut [u16],
-    symbols: &mut [u16],
 ) -> Same {
     let mut t = Same {
         sums: 0,
         nodes: 0,
         pairs: 0,
     };
-    let mut u = 0;
-    while u < dead.len() {
-        t = rank(s, dead, helpers, u, nodes, wire, pairs, sums, symbols, t);
-        u += 1;
+    for u in 0..dead.len() {
+        t = rank(s, dead, helpers, u, nodes, wire, pairs, t);
     }
     t
-}
-
-// The steps of all new nodes, in parts of the buffers for messages of `size` symbols.
-fn ranks_in(
-    s: Shape,
-    dead: &[usize],
-    helpers: &[usize],
-    size: usize,
-    nodes: &[u16],
-    wire: &[u16],
-    pairs: &mut [u16],
-    sums: &mut [u16],
-    symbols: &mut [u16],
-) -> Same {
-    let two = least(times(2, size), pairs.len());
-    let many = least(times(fellows(dead.len()), size), sums.len());
-    let node = least(places_of(s), symbols.len());
-    ranks(
-        s,
-        dead,
-        helpers,
-        nodes,
-        wire,
-        &mut pairs[0..two],
-        &mut sums[0..many],
-        &mut symbols[0..node],
-    )
 }
 
 // ---- the lines
@@ -307,9 +316,9 @@ fn messages_apart(
     nodes: &[u16],
     wire: &[u16],
 ) {
-    let mut message = [0u16; MOST_PLACES];
-    let one = least(size, MOST_PLACES);
-    print(messages_same(s, dead, helpers, nodes, wire, &mut message[0..one]));
+    let mut message = [7u16; MOST_PLACES];
+    let part = buffer_part(&mut message, size);
+    print(messages_same(s, dead, helpers, nodes, wire, part));
 }
 
 // The sums that are those of the wire, the new nodes that are as the repair left them, and the own pairs.
@@ -321,20 +330,9 @@ fn steps_apart(
     nodes: &[u16],
     wire: &[u16],
 ) {
-    let mut pairs = [0u16; MOST_PLACES];
-    let mut sums = [0u16; MOST_PLACES];
-    let mut symbols = [0u16; MOST_PLACES];
-    let t = ranks_in(
-        s,
-        dead,
-        helpers,
-        size,
-        nodes,
-        wire,
-        &mut pairs,
-        &mut sums,
-        &mut symbols,
-    );
+    let mut pairs = [7u16; MOST_PLACES];
+    let part = buffer_part(&mut pairs, times(2, size));
+    let t = ranks(s, dead, helpers, nodes, wire, part);
     print(t.sums);
     print(t.nodes);
     print(t.pairs);
@@ -368,26 +366,29 @@ fn line(r: Trial, seed: u64, nodes: &mut [u16], wire: &mut [u16]) {
 }
 
 fn trial_at(c: usize) -> Trial {
-    let row = SHAPES[c % CASES];
-    trial_of(row[0], row[1], row[2], row[3], row[4] == 1)
+    let x = SHAPES[c % CASES];
+    trial_of(
+        x / 10000000,
+        x / 100000 % 100,
+        x / 1000 % 100,
+        x / 10 % 100,
+        x % 10 == 1,
+    )
 }
 
 // Case c, in the parts of the buffers that its shape asks for.
 fn case(c: usize, nodes: &mut [u16], wire: &mut [u16]) {
     let r = trial_at(c);
     let seed = (c % CASES + 1) as u64;
-    let total = least(all_symbols(r.shape), nodes.len());
-    let length = least(wire_symbols(r), wire.len());
+    let part = buffer_part(nodes, all_symbols(r.shape));
     print_trial(r);
-    print(filled(r, seed, wire, &mut nodes[0..total]));
-    line(r, seed, &mut nodes[0..total], &mut wire[0..length]);
+    print(filled(r, seed, wire, part));
+    line(r, seed, part, buffer_part(wire, wire_symbols(r)));
 }
 
 fn cases(nodes: &mut [u16], wire: &mut [u16]) {
-    let mut c = 0;
-    while c < CASES {
+    for c in 0..CASES {
         case(c, nodes, wire);
-        c += 1;
     }
 }
 

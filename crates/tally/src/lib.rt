@@ -122,6 +122,15 @@ pub fn front_symbols(symbols: &[u16], n: usize) -> &[u16] {
     }
 }
 
+// The part of a buffer that holds n symbols.
+pub fn buffer_part(buffer: &mut [u16], n: usize) -> &mut [u16] {
+    if buffer.len() < n {
+        buffer
+    } else {
+        &mut buffer[0..n]
+    }
+}
+
 // ---- digests
 
 // A digest with x added to it.

@@ -7,10 +7,10 @@ use Rattle.code_test.proofs.cases.Statement.{statement}
 use Rattle.code_test.proofs.cases.Tie as tie
 
 abbrev Inv-loop : tie.InvT-loop
-Inv-loop nodes₀ symbols₀ back₀ text₀ c₀ nodes symbols back text c = (c ≤ 21) × (length nodes ≡ length nodes₀) × (length symbols ≡ length symbols₀) × (length back ≡ length back₀) × (length text ≡ length text₀)
+Inv-loop nodes₀ text₀ i₀ nodes text i = (i ≤ 147) × (length nodes ≡ length nodes₀) × (length text ≡ length text₀)
 
 abbrev μ-loop : tie.MeasureT-loop
-μ-loop nodes₀ symbols₀ back₀ text₀ c₀ nodes symbols back text c = 21 - c
+μ-loop nodes₀ text₀ i₀ nodes text i = 147 - i
 
 pub cases-spec : {M : Type 1} → statement M
 cases-spec =
@@ -20,8 +20,6 @@ cases-spec =
     μ-loop
     (λ c. search needs)
     (λ c κs. search needs)
-    (λ c. search needs)
-    (λ c. search needs)
     (λ c. search needs)
     (λ c. search needs)
     (λ c. search needs)

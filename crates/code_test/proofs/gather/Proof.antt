@@ -7,10 +7,10 @@ use Rattle.code_test.proofs.gather.Statement.{statement}
 use Rattle.code_test.proofs.gather.Tie as tie
 
 abbrev Inv-loop : tie.InvT-loop
-Inv-loop list nodes symbols₀ places e₀ symbols e = (e ≤ length symbols₀) × (length symbols ≡ length symbols₀)
+Inv-loop places list nodes symbols₀ e₀ symbols e = (e ≤ length symbols₀) × (length symbols ≡ length symbols₀)
 
 abbrev μ-loop : tie.MeasureT-loop
-μ-loop list nodes symbols₀ places e₀ symbols e = length symbols₀ - e
+μ-loop places list nodes symbols₀ e₀ symbols e = length symbols₀ - e
 
 pub gather-spec : {M : Type 1} → statement M
 gather-spec =
@@ -18,7 +18,6 @@ gather-spec =
     (tie.spec
     Inv-loop
     μ-loop
-    (λ c κs. search needs)
     (λ c. search needs)
     (λ c κs. search needs)
     (λ c. search needs)

@@ -10,7 +10,5 @@ main-spec =
     (tie.spec
     (λ c. lent 737280 0)
     (λ c. lent 430080 0)
-    (λ c. lent 737280 0)
-    (λ c. lent 430080 0)
     (λ c κs. search needs)
     (λ c. search needs))

@@ -7,10 +7,10 @@ use Rattle.steps_test.proofs.ranks.Statement.{statement}
 use Rattle.steps_test.proofs.ranks.Tie as tie
 
 abbrev Inv-loop : tie.InvT-loop
-Inv-loop s dead helpers nodes wire pairs₀ sums₀ symbols₀ t₀ u₀ pairs sums symbols t u = (u ≤ length dead) × (length pairs ≡ length pairs₀) × (length sums ≡ length sums₀) × (length symbols ≡ length symbols₀)
+Inv-loop s dead helpers nodes wire pairs₀ t₀ u₀ u-end pairs t u = (u ≤ u-end) × (length pairs ≡ length pairs₀)
 
 abbrev μ-loop : tie.MeasureT-loop
-μ-loop s dead helpers nodes wire pairs₀ sums₀ symbols₀ t₀ u₀ pairs sums symbols t u = length dead - u
+μ-loop s dead helpers nodes wire pairs₀ t₀ u₀ u-end pairs t u = u-end - u
 
 pub ranks-spec : {M : Type 1} → statement M
 ranks-spec =
@@ -20,8 +20,6 @@ ranks-spec =
     μ-loop
     (λ c. search needs)
     (λ c κs. search needs)
-    (λ c. search needs)
-    (λ c. search needs)
     (λ c. search needs)
     (λ c. search needs)
     (λ c. search needs)
