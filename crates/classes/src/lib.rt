@@ -1,6 +1,4 @@
-// Classes, places and sums: what the shape and the dead nodes of a repair fix.
-use code::MODULUS;
-use field::add;
+// Layout and classes: what the shape and the dead nodes of a repair fix.
 use shape::Shape;
 use shape::batch;
 use shape::size;
@@ -11,13 +9,12 @@ ghost use Prim.Native.Nat.{_+_, _*_, _/_, _%_, _^_, _≤_, _<_};
 ghost use lib.Bits.{bitXor};
 ghost use lib.Dec.{eqb};
 ghost use lib.ListN.{length};
-ghost use Rattle.lists.specs.Digits.{bit, flip};
+ghost use Rattle.lists.specs.Digits.{bit};
 ghost use Rattle.shape.specs.Shape.{mostNodes, size};
 ghost use Rattle.shape.specs.Refusals.{shapeBad};
-ghost use Rattle.classes.specs.Classes.{batch, classOf, rankClass, partner, placeOf, inClass, placeAt};
-ghost use Rattle.classes.specs.Steps.{addedAt, place};
+ghost use Rattle.classes.specs.Classes.{batch, classOf, rankClass, inClass};
+ghost use Rattle.classes.specs.Steps.{place};
 ghost use Rattle.classes.specs.Layout.{Ready};
-ghost use Rattle.code.specs.Code.{narrow};
 ghost use Rattle.lists.specs.Lists.{member, position, rising};
 
 // What the shape and the dead nodes fix, worked out once for each call.
@@ -61,19 +58,6 @@ fn class_of(g: Layout, dead: &[usize], a: usize) -> usize
     class
 }
 
-// a with bit i flipped.
-fn flipped(i: usize, a: usize) -> usize
-    requires { ⌜ (i < mostNodes) × (a < 2 ^ mostNodes) ⌝ }
-    ensures { λ r. ⌜ r ≡ flip i a ⌝ }
-{
-    let worth = two_to(i);
-    if a / worth % 2 == 0 {
-        a + worth
-    } else {
-        a - worth
-    }
-}
-
 // The table's column "its class", of rank u.
 pub fn rank_class(g: Layout, dead: &[usize], u: usize) -> usize
     requires { ⌜ Ready (now dead) g ⌝ }
@@ -86,30 +70,6 @@ pub fn rank_class(g: Layout, dead: &[usize], u: usize) -> usize
     } else {
         top
     }
-}
-
-// The table's column "partner layer".
-fn partner(g: Layout, dead: &[usize], u: usize) -> usize
-    requires { ⌜ (Ready (now dead) g) × (u < length (now dead)) ⌝ }
-    ensures { λ r. ⌜ r ≡ partner (now (dead .entry)) u ⌝ }
-{
-    let batch = g.batch;
-    let top = g.top;
-    if u / batch < top {
-        u % batch
-    } else {
-        u % batch + 1
-    }
-}
-
-// The place of layer w of batch b, at a.
-fn place_of(g: Layout, dead: &[usize], w: usize, b: usize, a: usize) -> usize
-    requires { ⌜ (Ready (now dead) g) × (w < g .batch) × (b < g .batches) × (a < g .places) ⌝ }
-    ensures { λ r. ⌜ (r < size (g .shape)) × (r ≡ placeOf (g .shape) (now (dead .entry)) w b a) ⌝ }
-{
-    let batch = g.batch;
-    let places = g.places;
-    (batch * b + w) * places + a
 }
 
 // What a repair works with, once its causes 1 to 3 are judged: N/(h+1) is worked out here and not before.
@@ -135,7 +95,7 @@ pub fn laid_out(s: Shape, dead: &[usize]) -> Layout
 
 // The batch of place e, where e counts the places of all batches' layers 0. 2^n is a divisor that the compiler does not know, and a
 // shift is fast.
-fn batch_at(g: Layout, dead: &[usize], e: usize) -> usize
+pub fn batch_at(g: Layout, dead: &[usize], e: usize) -> usize
     requires { ⌜ Ready (now dead) g ⌝ }
     ensures { λ r. ⌜ r ≡ e / g .places ⌝ }
 {
@@ -145,27 +105,12 @@ fn batch_at(g: Layout, dead: &[usize], e: usize) -> usize
 }
 
 // The a of place e of all batches' layers 0.
-fn a_at(g: Layout, dead: &[usize], e: usize) -> usize
+pub fn a_at(g: Layout, dead: &[usize], e: usize) -> usize
     requires { ⌜ Ready (now dead) g ⌝ }
     ensures { λ r. ⌜ r ≡ e % g .places ⌝ }
 {
     let places = g.places;
     e - batch_at(g, dead, e) * places
-}
-
-// The first (which = 0) or the other (1) place of rank u's sum at e, which counts the places of all batches' layers 0.
-pub fn place(g: Layout, dead: &[usize], u: usize, which: usize, e: usize) -> usize
-    requires { ⌜ (Ready (now dead) g) × (u < length (now dead)) × (e < g .batches * g .places) ⌝ }
-    ensures { λ r. ⌜ (r < size (g .shape)) × (r ≡ placeAt (g .shape) (now (dead .entry)) u which e) ⌝ }
-{
-    let a = a_at(g, dead, e);
-    let b = batch_at(g, dead, e);
-    if which == 0 {
-        place_of(g, dead, 0, b, a)
-    } else {
-        let node = dead[u];
-        place_of(g, dead, partner(g, dead, u), b, flipped(node, a))
-    }
 }
 
 // Whether the a at e has class c.
@@ -174,24 +119,6 @@ pub fn of_class(g: Layout, dead: &[usize], c: usize, e: usize) -> bool
     ensures { λ r. ⌜ r ≡ inClass (now (dead .entry)) c (e % 2 ^ g .shape .n) ⌝ }
 {
     class_of(g, dead, a_at(g, dead, e)) == c
-}
-
-// "the helper's symbol at (layer 0, a) plus its symbol at (partner layer, a with bit i_u flipped)"
-pub fn sum_at(g: Layout, dead: &[usize], u: usize, e: usize, symbols: &[u16]) -> u16
-    requires { ⌜ (Ready (now dead) g) × (u < length (now dead)) × (e < g .batches * g .places) × (length (now symbols) ≡ size (g .shape)) ⌝ }
-    ensures { λ r. ⌜ r ≡ addedAt narrow (g .shape) (now (dead .entry)) u (now (symbols .entry)) e ⌝ }
-{
-    let one = place(g, dead, u, 0, e);
-    let other = place(g, dead, u, 1, e);
-    add(MODULUS, symbols[one] as u32, symbols[other] as u32) as u16
-}
-
-// How many places all batches' layers 0 have.
-pub fn first_places(g: Layout, dead: &[usize]) -> usize
-    requires { ⌜ Ready (now dead) g ⌝ }
-    ensures { λ r. ⌜ r ≡ g .batches * g .places ⌝ }
-{
-    g.batches * g.places
 }
 
 // The rank of a dead node: its position in the list.

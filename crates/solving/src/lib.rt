@@ -1,7 +1,6 @@
 // The first step of a new node: its sums solved, its own pairs kept, the other new nodes' sums handed out.
 use classes::Layout;
 use classes::among;
-use classes::first_places;
 use classes::of_class;
 use classes::rank_class;
 use code::MODULUS;
@@ -10,6 +9,7 @@ use column::ENTRIES;
 use column::Outcome;
 use column::Solution;
 use completion::complete;
+use sums::first_places;
 ghost use mathlib.Core.Path.{_≡_};
 ghost use Prim.Native.Nat.{ℕ, _+_, _-_, _*_, _%_, _^_, _≤_, _<_};
 ghost use lib.ListN.{length, getD, set};

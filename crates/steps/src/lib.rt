@@ -1,13 +1,13 @@
 // A helper's message to a new node, and the second step of a new node.
 use classes::Layout;
 use classes::among;
-use classes::first_places;
 use classes::of_class;
-use classes::place;
 use classes::rank_class;
-use classes::sum_at;
 use code::MODULUS;
 use field::subtract;
+use sums::first_places;
+use sums::place;
+use sums::sum_at;
 ghost use mathlib.Core.Path.{_≡_};
 ghost use Prim.Native.Nat.{_+_, _-_, _*_, _<_};
 ghost use lib.ListN.{length};

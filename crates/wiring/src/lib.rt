@@ -1,8 +1,6 @@
 // The work of a whole repair: the helpers' messages on the wire, then each new node's first step, then each second step.
 use classes::Layout;
-use classes::first_places;
 use classes::of_class;
-use classes::place;
 use classes::rank_class;
 use column::Outcome;
 use shape::size;
@@ -11,6 +9,8 @@ use solving::solve_sum;
 use solving::store_own;
 use steps::message_to;
 use steps::recover;
+use sums::first_places;
+use sums::place;
 ghost use mathlib.Core.Path.{_≡_};
 ghost use mathlib.Core.Bool.{true};
 ghost use Prim.Native.Nat.{_+_, _-_, _*_, _%_, _^_, _≤_, _<_};

@@ -1,4 +1,4 @@
--- `classes::flipped` meets its contract: by the digit. Assumes nothing.
+-- `sums::flipped` meets its contract: by the digit. Assumes nothing.
 use Prim.Native.Nat.{_≤_}
 use native.Mathlib.Omega.{arith}
 use borrow.Author.Needs.{needs}
@@ -7,8 +7,8 @@ use lib.Pow.{pow-pos, pow-mono}
 use Rattle.lists.specs.Digits.{bit, flip}
 use Rattle.lists.proofs.Flips.{set-le}
 use Rattle.shape.specs.Shape.{mostNodes}
-use Rattle.classes.proofs.flipped.Statement.{statement}
-use Rattle.classes.proofs.flipped.Tie as tie
+use Rattle.sums.proofs.flipped.Statement.{statement}
+use Rattle.sums.proofs.flipped.Tie as tie
 
 div-if1 : tie.Need-div-if1
 div-if1 c = rw (c .two-to .ensures) (omega (arith, pow-pos (c .before .args .i)))

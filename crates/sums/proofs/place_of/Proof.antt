@@ -1,10 +1,10 @@
--- `classes::place_of` meets its contract: the layer is one of few, and the place below the size of a node, so that nothing wraps. Assumes nothing.
+-- `sums::place_of` meets its contract: the layer is one of few, and the place below the size of a node, so that nothing wraps. Assumes nothing.
 use Prim.Native.Nat.{_+_, _*_, _<_}
 use native.Mathlib.Omega.{arith}
 use Rattle.shape.specs.Shape.{mostLayers}
 use Rattle.classes.proofs.Layouts.{bounded, layer-lt, placed}
-use Rattle.classes.proofs.place_of.Statement.{statement}
-use Rattle.classes.proofs.place_of.Tie as tie
+use Rattle.sums.proofs.place_of.Statement.{statement}
+use Rattle.sums.proofs.place_of.Tie as tie
 
 few : (c : tie.Start) → c .args .g .batch * c .args .b + c .args .w < mostLayers
 few c = let p = c .pre in omega (arith, layer-lt (p .0) _ _ (p .1) (p .2), bounded (p .0) .layers-high)

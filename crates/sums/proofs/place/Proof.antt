@@ -1,15 +1,15 @@
--- `classes::place` meets its contract: the first place, or the other. Assumes nothing.
+-- `sums::place` meets its contract: the first place, or the other. Assumes nothing.
 use mathlib.Core.Path.{_∙_}
 use native.Mathlib.Omega.{arith}
 use borrow.Author.Needs.{needs}
 use borrow.Author.Tests.{eq-eqb, ne-eqb}
 use Rattle.lists.proofs.Places.{Place, place-of}
 use Rattle.classes.specs.Classes.{node, sumPlace, placeAt}
 use Rattle.classes.proofs.Dead.{flip-node-lt}
 use Rattle.classes.proofs.Ranks.{partner-lt}
 use Rattle.classes.proofs.Layouts.{bounded, ready-dead, node-high}
-use Rattle.classes.proofs.place.Statement.{statement}
-use Rattle.classes.proofs.place.Tie as tie
+use Rattle.sums.proofs.place.Statement.{statement}
+use Rattle.sums.proofs.place.Tie as tie
 
 at : (c : tie.Start) → Place (c .args .g .batches) (c .args .g .places) (c .args .e)
 at c = place-of _ _ _ (c .pre .2)

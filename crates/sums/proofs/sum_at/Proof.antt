@@ -1,10 +1,10 @@
--- `classes::sum_at` meets its contract: the sum of the symbols at the two places. Assumes nothing.
+-- `sums::sum_at` meets its contract: the sum of the symbols at the two places. Assumes nothing.
 use mathlib.Core.Path.{_∙_}
 use native.Mathlib.Omega.{arith}
 use borrow.Author.Needs.{needs}
 use Rattle.classes.specs.Steps.{addedAt}
-use Rattle.classes.proofs.sum_at.Statement.{statement}
-use Rattle.classes.proofs.sum_at.Tie as tie
+use Rattle.sums.proofs.sum_at.Statement.{statement}
+use Rattle.sums.proofs.sum_at.Tie as tie
 
 cast-add : tie.Need-cast-add
 cast-add c = omega (arith, c .shared-slice-known3 .given (c .before .before .place .result))
