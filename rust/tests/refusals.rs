@@ -57,6 +57,7 @@ const SHAPE: &[Cause] = &[
     ("n is 13", 1, |i| i.shape.nodes = 13),
     ("n is 64", 1, |i| i.shape.nodes = 64),
     ("n is 2^32 + 6", 1, |i| i.shape.nodes = (1 << 32) + 6),
+    ("n is 2^63", 1, |i| i.shape.nodes = 1 << 63),
     ("n is the largest number", 1, |i| i.shape.nodes = usize::MAX),
     ("k is 0", 1, |i| i.shape.data = 0),
     ("k is n - 1", 1, |i| i.shape.data = 5),
