@@ -143,7 +143,7 @@ fn mixed_check(h: u64, answer: Checked) -> u64 {
     }
 }
 
-// A check's answer in a digest.
+// The check of all nodes, in a digest.
 fn checked(h: u64, s: Shape, nodes: &[u16]) -> u64 {
     mixed_check(h, code::check(s, nodes))
 }
