@@ -23,6 +23,9 @@ Inv-loop q r triangle right values₀ pivots inverted i₀ values i =
 abbrev μ-loop : tie.MeasureT-loop
 μ-loop q r triangle right values₀ pivots inverted i₀ values i = i
 
+inverses-requires : tie.Need-inverses-requires Inv-loop μ-loop
+inverses-requires c κs = let s = c .before in (s .pre .0, s .pre .1, c .diagonal .ensures .0)
+
 loop-holds : tie.Need-loop-holds Inv-loop μ-loop
 loop-holds c = (search needs, search needs, λ w l h k. absurd (omega arith))
 
@@ -67,7 +70,7 @@ substituted-spec =
     Inv-loop
     μ-loop
     (λ c κs. search needs)
-    (λ c κs. search needs)
+    inverses-requires
     loop-holds
     (λ c. search needs)
     (λ c. search needs)
