@@ -1,3 +1,2 @@
--- Laws of restoring, lowest first.
-pub mod Completing
-pub mod Restoring
+-- Laws of restoring.
+pub mod Placing

@@ -1,92 +1,25 @@
-// All n nodes of an archive from any k of them, a place at a time.
+// All n nodes of an archive from any k of them.
 use code::MODULUS;
-use code::gathered;
-use code::points_at;
-use column::Outcome;
-use completion::complete;
+use filling::fill;
+use rows::copy;
 use shape::Answer;
-use shape::MOST_NODES;
 use shape::Refusal;
 use shape::Shape;
 use shape::nodes_bad;
 use shape::shape_bad;
 use shape::size;
 use shape::symbol_bad;
-use shape::two_to;
 ghost use mathlib.Core.Path.{_≡_};
 ghost use mathlib.Core.Bool.{true};
-ghost use Prim.Native.Nat.{ℕ, _*_, _≤_, _<_};
-ghost use lib.ListN.{length, getD};
+ghost use Prim.Native.Nat.{_*_};
+ghost use lib.ListN.{length};
 ghost use Rattle.lists.specs.Lists.{rising};
-ghost use Rattle.lists.specs.Rows.{Placed};
-ghost use Rattle.shape.specs.Shape.{mostNodes};
 ghost use Rattle.shape.specs.Refusals.{answerNumber};
 ghost use Rattle.code.specs.Code.{narrow};
 ghost use Rattle.code.specs.Archive.{restored};
 ghost use Rattle.code.specs.Refusals.{restoreRefusal};
 ghost use Rattle.code.specs.Promises.{Restores};
-ghost use Rattle.restoring.specs.Steps.{CompletedAt, Placing, RestoredPlace, Readable, RestoredAt};
-
-// What the n nodes hold at a place, where solving met no zero divisor.
-pub struct Column {
-    pub outcome: Outcome,
-    pub symbols: [u32; MOST_NODES],
-}
-
-// The column at a that has these values at the listed nodes.
-fn completed_at(n: usize, a: usize, list: &[usize], values: [u32; MOST_NODES]) -> Column
-    requires { ⌜ (n ≤ mostNodes) × (rising 0 n (now list) ≡ true) × (length values ≡ mostNodes) ⌝ }
-    ensures { λ column. ⌜ CompletedAt n a (now (list .entry)) values column ⌝ }
-{
-    let points = points_at(n, a);
-    let mut symbols = [0u32; MOST_NODES];
-    let k = list.len();
-    let outcome = complete(MODULUS, &points[..n], list, &values[..k], &mut symbols[..n]);
-    Column { outcome, symbols }
-}
-
-// A column stored at a place of the n nodes.
-fn store_column(n: usize, size: usize, place: usize, column: [u32; MOST_NODES], nodes: &mut [u16])
-    requires { ⌜ (n ≤ mostNodes) × (place < size) × (length (now nodes) ≡ n * size) × ((i : ℕ) → i < n → getD column i 0 < narrow .modulus) ⌝ }
-    ensures { λ _. ⌜ Placed n size place column (now (nodes .entry)) (now (nodes .exit)) ⌝ }
-{
-    for node in 0..n {
-        nodes[node * size + place] = column[node] as u16;
-    }
-}
-
-// The column at a place that has these values at the listed nodes, worked out and stored.
-pub fn restore_place(
-    s: Shape,
-    place: usize,
-    list: &[usize],
-    values: [u32; MOST_NODES],
-    nodes: &mut [u16],
-) -> Outcome
-    requires { ⌜ Placing s place (now list) values (now nodes) ⌝ }
-    ensures { λ outcome. ⌜ RestoredPlace s place (now (list .entry)) values (now (nodes .entry)) (now (nodes .exit)) outcome ⌝ }
-{
-    let n = s.n;
-    let column = completed_at(n, place % two_to(n), list, values);
-    let outcome = column.outcome;
-    let symbols = column.symbols;
-    let Outcome::Solved = outcome else {
-        return Outcome::ZeroDivisor;
-    };
-    store_column(n, size(s), place, symbols, nodes);
-    Outcome::Solved
-}
-
-// The column at a place that has the listed nodes' symbols there.
-pub fn restored_at(s: Shape, list: &[usize], symbols: &[u16], place: usize) -> Column
-    requires { ⌜ Readable s (now list) (now symbols) place ⌝ }
-    ensures { λ column. ⌜ RestoredAt s (now (list .entry)) (now (symbols .entry)) place column ⌝ }
-{
-    let n = s.n;
-    let k = s.k;
-    let values = gathered(symbols, k, size(s), place);
-    completed_at(n, place % two_to(n), list, values)
-}
+ghost use Rattle.restoring.specs.Steps.{ListedPlaced};
 
 // Causes 1, 2, 4 and 5 of restoring into a buffer of `room` symbols, in this order.
 fn judge_restore(s: Shape, list: &[usize], symbols: &[u16], room: usize) -> Answer
@@ -112,19 +45,23 @@ fn judge_restore(s: Shape, list: &[usize], symbols: &[u16], room: usize) -> Answ
     Answer::Done
 }
 
-// All n nodes from the listed ones, a place at a time.
+// The symbols of the listed nodes, put where these nodes stand among all n.
+fn place_nodes(n: usize, each: usize, list: &[usize], symbols: &[u16], nodes: &mut [u16])
+    requires { ⌜ (rising 0 n (now list) ≡ true) × (length (now symbols) ≡ length (now list) * each) × (length (now nodes) ≡ n * each) ⌝ }
+    ensures { λ _. ⌜ ListedPlaced each (now (list .entry)) (now (symbols .entry)) (length (now (list .entry))) (now (nodes .entry)) (now (nodes .exit)) ⌝ }
+{
+    for j in 0..list.len() {
+        copy(each, symbols, j * each, list[j] * each, nodes);
+    }
+}
+
+// All n nodes from the listed ones.
 fn restore_all(s: Shape, list: &[usize], symbols: &[u16], nodes: &mut [u16]) -> Answer
     requires { ⌜ restoreRefusal narrow s (now list) (now symbols) (length (now nodes)) ≡ 0 ⌝ }
     ensures { λ answer. ⌜ (answer ≡ Answer.Done) × (now (nodes .exit) ≡ restored narrow s (now (list .entry)) (now (symbols .entry))) ⌝ }
 {
-    let k = s.k;
-    let places = size(s);
-    for place in 0..places {
-        let values = gathered(symbols, k, places, place);
-        let Outcome::Solved = restore_place(s, place, list, values, nodes) else {
-            return Answer::Refused(Refusal::ZeroDivisor);
-        };
-    }
+    place_nodes(s.n, size(s), list, symbols, nodes);
+    fill(s, list, nodes);
     Answer::Done
 }
 

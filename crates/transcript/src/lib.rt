@@ -1,8 +1,10 @@
 // Transcripts: written into the n nodes of an archive, and opened from any k of them (demand 2).
 use code::MODULUS;
+use code::gathered;
+use code::points_at;
 use column::Outcome;
-use restoring::restore_place;
-use restoring::restored_at;
+use completion::complete;
+use filling::fill;
 use shape::Answer;
 use shape::MOST_NODES;
 use shape::Refusal;
@@ -11,39 +13,52 @@ use shape::nodes_bad;
 use shape::shape_bad;
 use shape::size;
 use shape::symbol_bad;
+use shape::two_to;
 ghost use mathlib.Core.Path.{_≡_};
-ghost use Prim.Native.Nat.{_*_, _^_, _≤_, _<_};
+ghost use mathlib.Core.Bool.{true};
+ghost use Prim.Native.Nat.{_+_, _*_, _^_, _≤_, _<_};
 ghost use lib.ListN.{length, getD, take};
+ghost use Rattle.lists.specs.Lists.{rising};
 ghost use Rattle.lists.specs.Rows.{Placed};
+ghost use Rattle.column.specs.Solving.{element};
+ghost use Rattle.rows.specs.Rows.{Stored};
 ghost use Rattle.shape.specs.Shape.{mostNodes, mostLayers};
 ghost use Rattle.shape.specs.Refusals.{answerNumber};
 ghost use Rattle.code.specs.Code.{narrow};
 ghost use Rattle.code.specs.Archive.{written, dataOf};
 ghost use Rattle.code.specs.Refusals.{writeRefusal, openInputRefusal, dataRefusal, openRefusal};
-ghost use Rattle.code.specs.Steps.{Gathered, dataFits, ColumnFits, DataColumn};
+ghost use Rattle.code.specs.Steps.{dataFits, ColumnFits, DataColumn};
 ghost use Rattle.code.specs.Promises.{Writes, Opens};
+ghost use Rattle.transcript.specs.Steps.{nothing, DataStored, CompletedAt, Readable, RestoredAt};
 
-// Byte number b of a transcript, and 0 behind the last.
-fn byte_or_zero(transcript: &[u8], b: usize) -> u32
-    ensures { λ r. ⌜ r ≡ getD (now (transcript .entry)) b 0 ⌝ }
+// The bytes of a transcript, a symbol each: "Transcript byte number b stands on node b div N at place b mod N."
+fn store_transcript(transcript: &[u8], nodes: &mut [u16])
+    requires { ⌜ length (now transcript) ≤ length (now nodes) ⌝ }
+    ensures { λ _. ⌜ Stored 0 (length (now (transcript .entry))) (element (now (transcript .entry))) (now (nodes .entry)) (now (nodes .exit)) ⌝ }
 {
-    if b < transcript.len() {
-        transcript[b] as u32
-    } else {
-        0
+    for b in 0..transcript.len() {
+        nodes[b] = transcript[b] as u16;
     }
 }
 
-// What `count` data nodes of `size` symbols hold at a place: "Transcript byte number b stands on node b div N at place b mod N."
-fn bytes_at(transcript: &[u8], count: usize, size: usize, place: usize) -> [u32; MOST_NODES]
-    requires { ⌜ (count ≤ mostNodes) × (size ≤ mostLayers * 2 ^ mostNodes) × (place < size) ⌝ }
-    ensures { λ out. ⌜ Gathered count size place (now (transcript .entry)) out ⌝ }
+// Zeros from a place of the nodes on.
+fn clear(at: usize, count: usize, nodes: &mut [u16])
+    requires { ⌜ at + count ≤ length (now nodes) ⌝ }
+    ensures { λ _. ⌜ Stored at count nothing (now (nodes .entry)) (now (nodes .exit)) ⌝ }
 {
-    let mut out = [0u32; MOST_NODES];
-    for j in 0..count {
-        out[j] = byte_or_zero(transcript, j * size + place);
+    for i in 0..count {
+        nodes[at + i] = 0;
     }
-    out
+}
+
+// The data nodes, of `due` symbols in all: "The rest of nodes 0 to k−1 is 0."
+fn store_data(due: usize, transcript: &[u8], nodes: &mut [u16])
+    requires { ⌜ (length (now transcript) ≤ due) × (due ≤ length (now nodes)) ⌝ }
+    ensures { λ _. ⌜ DataStored due (now (transcript .entry)) (now (nodes .entry)) (now (nodes .exit)) ⌝ }
+{
+    let bytes = transcript.len();
+    store_transcript(transcript, nodes);
+    clear(bytes, due - bytes, nodes);
 }
 
 // The node numbers, of which the first k are the data nodes.
@@ -65,20 +80,15 @@ fn judge_write(s: Shape, transcript: &[u8], room: usize) -> Answer
     Answer::Done
 }
 
-// All n nodes from the data nodes, a place at a time.
+// All n nodes from the data nodes.
 fn write_all(s: Shape, transcript: &[u8], nodes: &mut [u16]) -> Answer
     requires { ⌜ writeRefusal s (now transcript) (length (now nodes)) ≡ 0 ⌝ }
     ensures { λ answer. ⌜ (answer ≡ Answer.Done) × (now (nodes .exit) ≡ written narrow s (now (transcript .entry))) ⌝ }
 {
     let k = s.k;
-    let each = size(s);
     let all = NODES;
-    for place in 0..each {
-        let values = bytes_at(transcript, k, each, place);
-        let Outcome::Solved = restore_place(s, place, &all[..k], values, nodes) else {
-            return Answer::Refused(Refusal::ZeroDivisor);
-        };
-    }
+    store_data(k * size(s), transcript, nodes);
+    fill(s, &all[..k], nodes);
     Answer::Done
 }
 
@@ -138,6 +148,35 @@ fn column_fits(
         }
     }
     true
+}
+
+// What the n nodes hold at a place, where solving met no zero divisor.
+struct Column {
+    outcome: Outcome,
+    symbols: [u32; MOST_NODES],
+}
+
+// The column at a that has these values at the listed nodes.
+fn completed_at(n: usize, a: usize, list: &[usize], values: [u32; MOST_NODES]) -> Column
+    requires { ⌜ (n ≤ mostNodes) × (rising 0 n (now list) ≡ true) × (length values ≡ mostNodes) ⌝ }
+    ensures { λ column. ⌜ CompletedAt n a (now (list .entry)) values column ⌝ }
+{
+    let points = points_at(n, a);
+    let mut symbols = [0u32; MOST_NODES];
+    let k = list.len();
+    let outcome = complete(MODULUS, &points[..n], list, &values[..k], &mut symbols[..n]);
+    Column { outcome, symbols }
+}
+
+// The column at a place that has the listed nodes' symbols there.
+fn restored_at(s: Shape, list: &[usize], symbols: &[u16], place: usize) -> Column
+    requires { ⌜ Readable s (now list) (now symbols) place ⌝ }
+    ensures { λ column. ⌜ RestoredAt s (now (list .entry)) (now (symbols .entry)) place column ⌝ }
+{
+    let n = s.n;
+    let k = s.k;
+    let values = gathered(symbols, k, size(s), place);
+    completed_at(n, place % two_to(n), list, values)
 }
 
 // Causes 8 and 7 of opening, of which the first never holds. The data symbols are worked out a place at a time, and not kept.

@@ -10,8 +10,8 @@ use Rattle.shape.proofs.Accepted.{shape-accepted}
 use Rattle.code.specs.Code.{narrow}
 use Rattle.code.specs.Archive.{restoredColumn}
 use Rattle.code.proofs.Accepted.{Openable, open-accepted}
-use Rattle.restoring.proofs.Restoring.{never}
 use Rattle.code.proofs.Opening.{FitTo, fit-more, fit-end, fit-fails}
+use Rattle.transcript.proofs.Restored.{never}
 use Rattle.transcript.proofs.judge_data.Statement.{statement}
 use Rattle.transcript.proofs.judge_data.Tie as tie
 

@@ -11,8 +11,8 @@ use Rattle.code.specs.Code.{narrow}
 use Rattle.code.specs.Archive.{restoredColumn}
 use Rattle.code.specs.Refusals.{openInputRefusal, dataRefusal, openRefusal}
 use Rattle.code.proofs.Accepted.{Openable, open-accepted, open-passed}
-use Rattle.restoring.proofs.Restoring.{never}
 use Rattle.code.proofs.Opening.{byte-small, opened-end}
+use Rattle.transcript.proofs.Restored.{never}
 use Rattle.transcript.proofs.open_all.Statement.{statement}
 use Rattle.transcript.proofs.open_all.Tie as tie
 

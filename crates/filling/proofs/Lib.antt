@@ -1,0 +1,3 @@
+-- Laws of filling in, lowest first.
+pub mod Summing
+pub mod Filling

@@ -1,0 +1,2 @@
+-- The nodes that are not listed, from those that are.
+pub mod Filling

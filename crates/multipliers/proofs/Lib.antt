@@ -1,0 +1,3 @@
+-- Laws of multipliers, lowest first.
+pub mod Totals
+pub mod Multipliers

@@ -1,0 +1,1 @@
+// Definitions and laws of multipliers; no functions.

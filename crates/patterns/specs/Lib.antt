@@ -1,0 +1,2 @@
+-- The patterns of the nodes that are not listed.
+pub mod Patterns

@@ -1,0 +1,2 @@
+-- Rows: what stands at consecutive places.
+pub mod Rows

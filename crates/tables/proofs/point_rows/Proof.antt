@@ -1,0 +1,53 @@
+-- `tables::point_rows` meets its contract. Assumes nothing.
+use mathlib.Core.Path.{_≡_}
+use Prim.Native.Nat.{_-_, _≤_}
+use native.Mathlib.Omega.{arith}
+use Rattle.tables.specs.Tables.{PointRows}
+use Rattle.column.specs.Solving.{element}
+use Rattle.tables.proofs.Tables.{point-rows-none, point-rows-more}
+use borrow.Author.Needs.{needs}
+use Rattle.tables.proofs.point_rows.Statement.{statement}
+use Rattle.tables.proofs.point_rows.Tie as tie
+
+abbrev Inv-loop : tie.InvT-loop
+Inv-loop n each run out₀ node₀ out node = (node ≤ n) × PointRows node (element each) run out
+
+abbrev μ-loop : tie.MeasureT-loop
+μ-loop n each run out₀ node₀ out node = n - node
+
+loop-holds : tie.Need-loop-holds Inv-loop μ-loop
+loop-holds c = (search needs, point-rows-none _ _)
+
+point-row-requires : tie.Need-point-row-requires Inv-loop μ-loop
+point-row-requires c κs =
+    let l = c .before .before .loop in
+    let s = c .before .before .before .before in
+    (omega arith, omega (arith, l .inv .1 .long), s .pre .2)
+
+loop-again : tie.Need-loop-again Inv-loop μ-loop
+loop-again c =
+    let l = c .before .before .before .before .loop in
+    let s = c .before .before .before .before .before .before in
+    (search needs, point-rows-more (l .node) _ _ _ _ (omega arith) (s .pre .1) (l .inv .1) (c .before .point-row .ensures))
+
+returns : tie.Need-returns Inv-loop μ-loop
+returns c =
+    let l = c .before .loop in
+    let s = c .before .before .before in
+    let e : l .node ≡ s .args .n = omega arith in
+    rw (← e) (l .inv .1)
+
+pub point-rows-spec : {M : Type 1} → statement M
+point-rows-spec =
+    tie.close
+    (tie.spec
+    Inv-loop
+    μ-loop
+    loop-holds
+    (λ c. search needs)
+    (λ c. search needs)
+    point-row-requires
+    (λ c. search needs)
+    (λ c. search needs)
+    loop-again
+    returns)

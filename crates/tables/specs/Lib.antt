@@ -1,0 +1,2 @@
+-- The multipliers of a run of consecutive a.
+pub mod Tables

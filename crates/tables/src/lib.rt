@@ -1,0 +1,145 @@
+// The multipliers of a run of consecutive a, worked out together: for each node that is not listed, a row for each listed node.
+use code::MODULUS;
+use code::point;
+use rows::RUN;
+use rows::inverses;
+use rows::quotients;
+use rows::scale;
+use shape::MOST_NODES;
+use shape::listed;
+ghost use mathlib.Core.Path.{_≡_};
+ghost use mathlib.Core.Bool.{true, false};
+ghost use Prim.Native.Nat.{ℕ, _+_, _*_, _^_, _<_, _≤_};
+ghost use lib.ListN.{length, getD};
+ghost use Rattle.lists.specs.Lists.{member, rising};
+ghost use Rattle.shape.specs.Shape.{mostNodes};
+ghost use Rattle.column.specs.Solving.{element};
+ghost use Rattle.code.specs.Code.{narrow};
+ghost use Rattle.rows.specs.Rows.{mostPlaces, Low, Stored};
+ghost use Rattle.tables.specs.Tables.{pointsSize, tableSize, pointOf, PointRows, Marks, DifferenceRow, NodeRows, TableOf, Table};
+
+// A row of points for each node.
+const POINTS: usize = MOST_NODES * RUN;
+
+// A row of multipliers for each node and each listed node.
+pub const TABLE: usize = MOST_NODES * MOST_NODES * RUN;
+
+// Which of n nodes are listed.
+pub fn marks(n: usize, list: &[usize]) -> [bool; MOST_NODES]
+    requires { ⌜ n ≤ mostNodes ⌝ }
+    ensures { λ out. ⌜ Marks n (now (list .entry)) out ⌝ }
+{
+    let mut out = [false; MOST_NODES];
+    for i in 0..n {
+        out[i] = listed(list, i);
+    }
+    out
+}
+
+// The points of a node at some a, from a place on.
+fn point_row(node: usize, each: &[usize], run: usize, at: usize, out: &mut [u32])
+    requires { ⌜ (node < mostNodes) × (at + run ≤ length (now out)) × (run ≤ length (now each)) ⌝ }
+    ensures { λ _. ⌜ Stored at run (pointOf (element (now (each .entry))) node) (now (out .entry)) (now (out .exit)) ⌝ }
+{
+    for t in 0..run {
+        out[at + t] = point(each[t], node);
+    }
+}
+
+// The points of n nodes at some a.
+fn point_rows(n: usize, each: &[usize], run: usize) -> [u32; POINTS]
+    requires { ⌜ (n ≤ mostNodes) × (run ≤ mostPlaces) × (run ≤ length (now each)) ⌝ }
+    ensures { λ out. ⌜ PointRows n (element (now (each .entry))) run out ⌝ }
+{
+    let mut out = [0u32; POINTS];
+    for node in 0..n {
+        point_row(node, each, run, node * RUN, &mut out);
+    }
+    out
+}
+
+// The product, at each place, of the point of node x less those of the nodes that are neither listed nor i.
+fn differences(
+    n: usize,
+    run: usize,
+    points: &[u32],
+    marked: [bool; MOST_NODES],
+    i: usize,
+    x: usize,
+) -> [u32; RUN]
+    requires { ⌜ (n ≤ mostNodes) × (run ≤ mostPlaces) × (length (now points) ≡ pointsSize) × Low (narrow .modulus) (now points) × (x < n) ⌝ }
+    ensures { λ out. ⌜ DifferenceRow n run (now (points .entry)) marked i x n out ⌝ }
+{
+    let mut out = [1u32; RUN];
+    for m in 0..n {
+        if marked[m] | (m == i) {
+            continue;
+        }
+        scale(MODULUS, run, points, x * RUN, m * RUN, &mut out);
+    }
+    out
+}
+
+// The rows of the multipliers of the listed nodes in node i.
+fn node_rows(
+    n: usize,
+    run: usize,
+    points: &[u32],
+    list: &[usize],
+    marked: [bool; MOST_NODES],
+    i: usize,
+    table: &mut [u16],
+)
+    requires { ⌜ (n ≤ mostNodes) × (run ≤ mostPlaces) × (length (now points) ≡ pointsSize) × Low (narrow .modulus) (now points) × (rising 0 n (now list) ≡ true) × (i < n) × (length (now table) ≡ tableSize) × (getD marked i false ≡ false) ⌝ }
+    ensures { λ _. ⌜ (length (now (table .exit)) ≡ length (now (table .entry))) × ((f : ℕ → ℕ) → PointRows n f run (now (points .entry)) → Marks n (now (list .entry)) marked → NodeRows n f run (now (list .entry)) i (length (now (list .entry))) (now (table .entry)) (now (table .exit))) ⌝ }
+{
+    let k = list.len();
+    let bottoms = differences(n, run, points, marked, i, i);
+    let inverted = inverses(MODULUS, run, bottoms);
+    for j in 0..k {
+        let tops = differences(n, run, points, marked, i, list[j]);
+        quotients(MODULUS, run, tops, inverted, (i * k + j) * RUN, table);
+    }
+}
+
+// The multipliers at some a of the listed nodes in each node below m that is not listed.
+pub fn multipliers_at(
+    n: usize,
+    m: usize,
+    each: &[usize],
+    run: usize,
+    list: &[usize],
+    marked: [bool; MOST_NODES],
+    table: &mut [u16],
+)
+    requires { ⌜ (n ≤ mostNodes) × (m ≤ n) × (run ≤ mostPlaces) × (run ≤ length (now each)) × (rising 0 n (now list) ≡ true) × Marks n (now list) marked × (length (now table) ≡ tableSize) × Low (narrow .modulus) (now table) ⌝ }
+    ensures { λ _. ⌜ TableOf n (element (now (each .entry))) run (now (list .entry)) m (now (table .exit)) ⌝ }
+{
+    let points = point_rows(n, each, run);
+    for i in 0..m {
+        if marked[i] {
+            continue;
+        }
+        node_rows(n, run, &points, list, marked, i, table);
+    }
+}
+
+// The multipliers at a, a + 1, ..
+pub fn multipliers(
+    n: usize,
+    m: usize,
+    a: usize,
+    run: usize,
+    list: &[usize],
+    marked: [bool; MOST_NODES],
+    table: &mut [u16],
+)
+    requires { ⌜ (n ≤ mostNodes) × (m ≤ n) × (run ≤ mostPlaces) × (a + run ≤ 2 ^ mostNodes) × (rising 0 n (now list) ≡ true) × Marks n (now list) marked × (length (now table) ≡ tableSize) × Low (narrow .modulus) (now table) ⌝ }
+    ensures { λ _. ⌜ Table n a run (now (list .entry)) m (now (table .exit)) ⌝ }
+{
+    let mut each = [0usize; RUN];
+    for t in 0..run {
+        each[t] = a + t;
+    }
+    multipliers_at(n, m, &each, run, list, marked, table);
+}
