@@ -2,7 +2,8 @@
 //!
 //! "ns/symbol" is the time of a call over the symbols it makes (or, checking, looks at). "MB/s" is the transcript behind
 //! the call over its time: k × N bytes where the call works on the whole archive, N where it works on one node.
-//! "ratio" is the naive implementation's time over the library's. Times are medians.
+//! "ratio" is the naive implementation's time over the library's. All calls are measured in five rounds, one behind the
+//! other, and each number is the median of its five.
 
 #[path = "../tests/naive/mod.rs"]
 mod naive;
@@ -12,36 +13,67 @@ use naive::random::Random;
 use std::hint::black_box;
 use std::time::{Duration, Instant};
 
-const SHAPES: [(usize, usize, usize); 5] = [(6, 4, 3), (12, 6, 15), (12, 6, 1), (12, 10, 1), (12, 1, 1)];
+const SHAPES: [(usize, usize, usize); 6] = [(3, 1, 1), (6, 4, 3), (12, 6, 15), (12, 6, 1), (12, 10, 1), (12, 1, 1)];
 const DEAD_COUNTS: [usize; 3] = [1, 2, 3];
+const ROUNDS: usize = 5;
 
-/// A line goes on until it has so many runs of each side, or else the least number and this time.
-const MOST_RUNS: usize = 501;
-const LEAST_RUNS: usize = 7;
-const LINE_TIME: Duration = Duration::from_millis(700);
+/// A line of a round goes on until it has so many runs of each side, or else the least number and this time.
+const MOST_RUNS: usize = 101;
+const LEAST_RUNS: usize = 3;
+const LINE_TIME: Duration = Duration::from_millis(150);
 /// A run repeats a short call until it lasts so long: short beside the turns that other programs take of a processor, so
 /// that most runs are not interrupted.
 const RUN_TIME: Duration = Duration::from_micros(250);
 
-/// The lines printed so far whose ratio is below 1.
+/// What was measured of a call, a time for each round.
+struct Line {
+    name: String,
+    symbols: usize,
+    bytes: usize,
+    library: Vec<f64>,
+    naive: Vec<f64>,
+}
+
+impl Line {
+    fn ratio(&self) -> f64 {
+        median(self.library.iter().zip(&self.naive).map(|(library, naive)| naive / library).collect())
+    }
+
+    fn print(&self) {
+        let library = median(self.library.clone());
+        let naive = 1e9 * median(self.naive.clone()) / self.symbols as f64;
+        let per_symbol = 1e9 * library / self.symbols as f64;
+        let rate = if self.bytes == 0 { "-".to_string() } else { format!("{:.2}", self.bytes as f64 / library / 1e6) };
+        println!("{:<36}{per_symbol:>12.2}{rate:>12}{naive:>14.2}{:>9.2}", self.name, self.ratio());
+    }
+}
+
+/// The lines measured so far, in the order of a round.
 struct Table {
-    slower: Vec<String>,
+    lines: Vec<Line>,
 }
 
 impl Table {
-    /// Measures a call against its naive counterpart, and prints the line.
+    /// Measures a call against its naive counterpart.
     fn line<A, B>(
         &mut self, name: String, symbols: usize, bytes: usize, mut library: impl FnMut() -> A,
         mut naive: impl FnMut() -> B,
     ) {
         let (library, naive) = medians(&mut || drop(black_box(library())), &mut || drop(black_box(naive())));
-        let ratio = naive / library;
-        let per_symbol = 1e9 * library / symbols as f64;
-        let rate = if bytes == 0 { "-".to_string() } else { format!("{:.2}", bytes as f64 / library / 1e6) };
-        println!("{name:<36}{per_symbol:>12.2}{rate:>12}{:>14.2}{ratio:>9.2}", 1e9 * naive / symbols as f64);
-        if ratio < 1.0 {
-            self.slower.push(format!("{name} ({ratio:.2})"));
+        match self.lines.iter_mut().find(|line| line.name == name) {
+            Some(line) => {
+                line.library.push(library);
+                line.naive.push(naive);
+            }
+            None => self.lines.push(Line { name, symbols, bytes, library: vec![library], naive: vec![naive] }),
         }
+    }
+
+    fn print(&self) {
+        println!("{:<36}{:>12}{:>12}{:>14}{:>9}", "(n, k, L) call", "ns/symbol", "MB/s", "naive ns/sym", "ratio");
+        self.lines.iter().for_each(Line::print);
+        let slower: Vec<String> = self.lines.iter().filter(|line| line.ratio() < 1.0).map(|line| line.name.clone()).collect();
+        println!("Ratio below 1: {}.", if slower.is_empty() { "none".to_string() } else { slower.join(", ") });
     }
 }
 
@@ -257,20 +289,22 @@ fn bench_plan(table: &mut Table, written: &Written, choice: &Choice) {
     assert_eq!(&text[..length], naive::plan(&input).as_bytes());
 }
 
+fn bench_shape(table: &mut Table, shape: (usize, usize, usize)) {
+    let written = Written::new(shape);
+    bench_code(table, &written);
+    for choice in DEAD_COUNTS.iter().filter_map(|&h| Choice::new(written.plain, h)) {
+        bench_repair(table, &written, &choice);
+        bench_plan(table, &written, &choice);
+    }
+    bench_cards(table, &written);
+}
+
 fn main() {
-    println!("{:<36}{:>12}{:>12}{:>14}{:>9}", "(n, k, L) call", "ns/symbol", "MB/s", "naive ns/sym", "ratio");
-    let mut table = Table { slower: Vec::new() };
-    for shape in SHAPES {
-        let written = Written::new(shape);
-        bench_code(&mut table, &written);
-        for choice in DEAD_COUNTS.iter().filter_map(|&h| Choice::new(written.plain, h)) {
-            bench_repair(&mut table, &written, &choice);
-            bench_plan(&mut table, &written, &choice);
+    let mut table = Table { lines: Vec::new() };
+    for _ in 0..ROUNDS {
+        for shape in SHAPES {
+            bench_shape(&mut table, shape);
         }
-        bench_cards(&mut table, &written);
     }
-    match table.slower.len() {
-        0 => println!("Ratio below 1: none."),
-        _ => println!("Ratio below 1: {}.", table.slower.join(", ")),
-    }
+    table.print();
 }
