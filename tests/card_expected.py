@@ -1,10 +1,13 @@
 #!/usr/bin/env python3
-"""What crates/card_test must print, worked out from document 01 ("Cards", "Shape and symbols", "When a call turns back") alone.
+"""What rust/tests/stored.rs must print for cards, and the program crates/numbers_test for the numbers in them, worked out from document 01
+("Cards", "Shape and symbols", "When a call turns back") alone.
 
-    python3 tests/card_expected.py > crates/card_test/stdout
+    python3 tests/card_expected.py > tests/stored/card.txt
+    python3 tests/card_expected.py numbers > crates/numbers_test/stdout
 
 It shares nothing with the Rattle code or its definitions: numbers are taken apart as whole strings of bytes, and cards by joining them.
 """
+import sys
 
 BIG = 2 ** 64 - 1
 SAMPLE = bytes([3, 1, 1, 1, 2, 253, 1, 247, 1, 0, 0, 0, 0, 0, 0])
@@ -196,15 +199,25 @@ def largest():
     t.line('largest')
 
 
-def main():
-    groups = [(cut, 16), (changed, 3840), (twice, 1296), (rooms, 25), (formed, 41472), (headed, 24375), (placed, 45360), (paired, 65536),
-              (pack_headed, 97500), (pack_symbols, 80), (pack_rooms, 539)]
+def run(groups):
     for group, cases in groups:
         t = Tally()
         for i in range(cases):
             group(t, i)
         t.line(group.__name__.replace('_', '-'))
+
+
+def cards():
+    run([(cut, 16), (changed, 3840), (twice, 1296), (rooms, 25), (formed, 41472), (headed, 24375),
+         (pack_headed, 97500), (pack_symbols, 80), (pack_rooms, 539)])
     largest()
 
 
-main()
+def numbers():
+    run([(placed, 45360), (paired, 65536)])
+
+
+if sys.argv[1:] == ['numbers']:
+    numbers()
+else:
+    cards()

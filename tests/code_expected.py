@@ -1,7 +1,7 @@
 #!/usr/bin/env python3
-"""What crates/code_test must print, from document 01 alone; it shares no code with the archive.
+"""What rust/tests/stored.rs must print for archives, from document 01 alone; it shares no code with the archive.
 
-    python3 tests/code_expected.py > crates/code_test/stdout
+    python3 tests/code_expected.py > tests/stored/code.txt
 
 Nodes are lists of lists here, solving is Gaussian elimination with pivoting on whole matrices, and the
 parity equations are sums as document 01 writes them.
@@ -135,7 +135,7 @@ def open_(n, k, layers, nodes, symbols, length, before):
     return 0, data[:length]
 
 
-# ---- numbers and digests, as the program makes them
+# ---- numbers and digests, as the test makes them
 
 def next_(seed):
     return (seed % 65521 * 17364 + 11) % 65521

@@ -1,7 +1,7 @@
 #!/usr/bin/env python3
-"""What crates/plan_test must print, worked out from document 01 ("The plan program", "Repair", "Cards", "When a call turns back") alone.
+"""What rust/tests/stored.rs must print for the plan, worked out from document 01 ("The plan program", "Repair", "Cards", "When a call turns back") alone.
 
-    python3 tests/plan_expected.py > crates/plan_test/stdout
+    python3 tests/plan_expected.py > tests/stored/plan.txt
 
 It shares nothing with the Rattle code or its definitions. ROOM is the size that the call asks of a text buffer, the one number here that
 is not document 01's.

@@ -1,7 +1,7 @@
 #!/usr/bin/env python3
-"""What crates/repair_test must print, from document 01's "Repair" alone; it shares no code with the archive.
+"""What rust/tests/stored.rs must print for whole repairs, from document 01's "Repair" alone; it shares no code with the archive.
 
-    python3 tests/repair_expected.py > crates/repair_test/stdout
+    python3 tests/repair_expected.py > tests/stored/repair.txt
 
 Nodes are lists here, and solving is Gauss-Jordan elimination with pivoting of whole matrices, kept for each
 set of points.

@@ -1,7 +1,7 @@
 #!/usr/bin/env python3
-"""What crates/steps_test must print, from document 01's "Repair" alone; it shares no code with the archive.
+"""What rust/tests/stored.rs must print for the calls of a repair one by one, from document 01's "Repair" alone; it shares no code with the archive.
 
-    python3 tests/steps_expected.py > crates/steps_test/stdout
+    python3 tests/steps_expected.py > tests/stored/steps.txt
 
 The repair is that of repair_expected.py, whose wire and nodes are made of the messages and steps that are counted here: a line has n, k, h, L,
 0 for the archive and 0 for the repair, digests of the wire and of the nodes, the messages of helpers, the sums between new nodes and the

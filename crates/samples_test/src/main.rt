@@ -3,16 +3,41 @@
 use card::Header;
 use card::Packed;
 use card::Unpacked;
+use libc::STDOUT_FILENO;
+use shape::Answer;
 use shape::Shape;
 use shape::number_of;
-use tally::end_line;
-use tally::number;
-use tally::print;
-use tally::shape_of;
-use tally::wide;
-use tally::wide_byte;
 ghost use mathlib.Core.Path.{_≡_};
 ghost use lib.ListN.{length};
+
+fn print(n: u64) {
+    io::print_decimal(STDOUT_FILENO, n);
+    io::write_all(STDOUT_FILENO, b" ");
+}
+
+fn end_line() {
+    io::write_all(STDOUT_FILENO, b"\n");
+}
+
+fn wide(x: u16) -> u64 {
+    x as u64
+}
+
+fn wide_byte(x: u8) -> u64 {
+    x as u64
+}
+
+// 0, or the number of the cause.
+fn number(answer: Answer) -> u64 {
+    match answer {
+        Answer::Done => 0,
+        Answer::Refused(cause) => number_of(cause) as u64,
+    }
+}
+
+fn shape_of(n: usize, k: usize, layers: usize) -> Shape {
+    Shape { n, k, layers }
+}
 
 fn print_symbols(symbols: &[u16]) {
     let mut i = 0;

@@ -1,2 +1,0 @@
--- The laws of `tally` that the test programs cite.
-pub mod Buffers

@@ -1,0 +1,211 @@
+//! The stack that a call needs stays small and does not grow with the archive: each call that works on an archive is
+//! made at the largest shapes by a thread with little stack, and its results are held to what was written. A call that
+//! needs more stack ends the whole test program, which names the thread: each thread has the name of its call.
+
+use archive::{unpack, Checked, Header, Refusal, Shape};
+use std::thread;
+
+/// The stack of a thread, in bytes. The buffers stand outside; in them an archive takes 1440 KiB, one node 120 KiB.
+const ROOM: usize = 96 * 1024;
+
+/// No archive is larger. With k = 6 and more, writing and restoring work few multipliers out first; with k = 5 they do
+/// not, and need more stack.
+const SHAPES: [Shape; 3] = [
+    Shape { nodes: 12, data: 5, layers: 15 },
+    Shape { nodes: 12, data: 6, layers: 15 },
+    Shape { nodes: 12, data: 10, layers: 15 },
+];
+
+/// Makes a call in a thread with little stack.
+fn with_little_stack<T: Send>(name: &str, call: impl FnOnce() -> Result<T, Refusal> + Send) -> T {
+    let builder = thread::Builder::new().name(name.to_string()).stack_size(ROOM);
+    let answer = thread::scope(|scope| builder.spawn_scoped(scope, call).unwrap().join());
+    answer.unwrap().unwrap()
+}
+
+/// A transcript as long as can be, and its nodes.
+struct Archive {
+    shape: Shape,
+    transcript: Vec<u8>,
+    nodes: Vec<u16>,
+}
+
+impl Archive {
+    fn write(shape: Shape) -> Self {
+        let byte = |place: usize| ((place as u32).wrapping_mul(2_654_435_761) >> 24) as u8;
+        let transcript: Vec<u8> = (0..shape.capacity().unwrap()).map(byte).collect();
+        let mut nodes = vec![7; shape.archive_symbols().unwrap()];
+        with_little_stack("write", || shape.write(&transcript, &mut nodes));
+        Archive { shape, transcript, nodes }
+    }
+
+    fn node(&self, node: usize) -> &[u16] {
+        let size = self.shape.node_symbols().unwrap();
+        &self.nodes[node * size..(node + 1) * size]
+    }
+
+    fn check(&self) -> Checked {
+        with_little_stack("check", || self.shape.check(&self.nodes))
+    }
+
+    /// The last k nodes, of which the first ones are worked out by solving.
+    fn last_nodes(&self) -> Vec<usize> {
+        (self.shape.nodes - self.shape.data..self.shape.nodes).collect()
+    }
+
+    fn last_symbols(&self) -> &[u16] {
+        &self.nodes[self.nodes.len() - self.transcript.len()..]
+    }
+}
+
+/// The bytes on nodes 0 to k - 1 and the parity equations leave only one archive.
+#[test]
+fn written_and_checked() {
+    for shape in SHAPES {
+        let mut archive = Archive::write(shape);
+        assert!(archive.nodes.iter().zip(&archive.transcript).all(|(&symbol, &byte)| symbol == byte.into()));
+        assert_eq!(archive.check(), Checked::Sound);
+        let last = archive.nodes.last_mut().unwrap();
+        *last = (*last + 1) % 257;
+        assert_eq!(archive.check(), Checked::Unmet { layer: 14, a: 4095, t: 0 });
+    }
+}
+
+#[test]
+fn restored() {
+    for shape in SHAPES {
+        let archive = Archive::write(shape);
+        let (list, symbols) = (archive.last_nodes(), archive.last_symbols());
+        let mut nodes = vec![7; archive.nodes.len()];
+        with_little_stack("restore", || shape.restore(&list, symbols, &mut nodes));
+        assert!(nodes == archive.nodes);
+    }
+}
+
+#[test]
+fn opened() {
+    for shape in SHAPES {
+        let archive = Archive::write(shape);
+        let (list, symbols) = (archive.last_nodes(), archive.last_symbols());
+        let mut transcript = vec![7; archive.transcript.len()];
+        with_little_stack("open", || shape.open(&list, symbols, archive.transcript.len(), &mut transcript));
+        assert!(transcript == archive.transcript);
+    }
+}
+
+#[test]
+fn packed_and_unpacked() {
+    for shape in SHAPES {
+        let archive = Archive::write(shape);
+        let (node, length) = (shape.nodes - 1, archive.transcript.len());
+        let mut card = vec![170; shape.card_room().unwrap()];
+        let end = with_little_stack("pack", || shape.pack(node, length, archive.node(node), &mut card));
+        let mut symbols = vec![7; shape.node_symbols().unwrap()];
+        let header = with_little_stack("unpack", || unpack(&card[..end], &mut symbols));
+        assert_eq!(header, Header { shape, node, length });
+        assert!(symbols == archive.node(node));
+    }
+}
+
+/// The first h nodes are dead, and the k + 1 behind them help.
+struct Repair<'a> {
+    archive: &'a Archive,
+    dead: Vec<usize>,
+    helpers: Vec<usize>,
+}
+
+/// What the first step of a new node gives.
+struct FirstStep {
+    pairs: Vec<u16>,
+    sums: Vec<u16>,
+}
+
+impl<'a> Repair<'a> {
+    fn new(archive: &'a Archive, dead: usize) -> Self {
+        Repair { archive, dead: (0..dead).collect(), helpers: (dead..dead + archive.shape.data + 1).collect() }
+    }
+
+    fn message_symbols(&self) -> usize {
+        self.archive.shape.message_symbols(self.dead.len()).unwrap()
+    }
+
+    /// The messages of all helpers to a new node.
+    fn helper_messages(&self, new_node: usize) -> Vec<u16> {
+        let size = self.message_symbols();
+        let mut messages = vec![7; self.helpers.len() * size];
+        for (&helper, message) in self.helpers.iter().zip(messages.chunks_exact_mut(size)) {
+            let own = self.archive.node(helper);
+            let (dead, helpers) = (&self.dead, &self.helpers);
+            let call = || self.archive.shape.helper_message(dead, helpers, helper, new_node, own, message);
+            with_little_stack("helper_message", call);
+        }
+        messages
+    }
+
+    fn first_step(&self, new_node: usize, messages: &[u16]) -> FirstStep {
+        let size = self.message_symbols();
+        let mut pairs = vec![7; 2 * size];
+        let mut sums = vec![7; (self.dead.len() - 1) * size];
+        let (dead, helpers) = (&self.dead, &self.helpers);
+        let call = || self.archive.shape.first_step(dead, helpers, new_node, messages, &mut pairs, &mut sums);
+        with_little_stack("first_step", call);
+        FirstStep { pairs, sums }
+    }
+
+    /// What a new node receives: of the sums of each other new node, the piece for this one.
+    fn received(&self, receiver: usize, steps: &[FirstStep]) -> Vec<u16> {
+        let size = self.message_symbols();
+        let mut received = Vec::new();
+        for (sender, step) in steps.iter().enumerate().filter(|&(sender, _)| sender != receiver) {
+            let piece = if receiver < sender { receiver } else { receiver - 1 };
+            received.extend_from_slice(&step.sums[piece * size..(piece + 1) * size]);
+        }
+        received
+    }
+
+    fn second_step(&self, new_node: usize, pairs: &[u16], received: &[u16]) -> Vec<u16> {
+        let mut symbols = vec![7; self.archive.node(new_node).len()];
+        let (dead, helpers) = (&self.dead, &self.helpers);
+        let call = || self.archive.shape.second_step(dead, helpers, new_node, pairs, received, &mut symbols);
+        with_little_stack("second_step", call);
+        symbols
+    }
+
+    /// The repair by the calls of single nodes: every new node has its symbols again. Gives all messages, as the wire
+    /// has them: the helpers' by new node, then the new nodes' by receiver.
+    fn by_steps(&self) -> Vec<u16> {
+        let messages: Vec<_> = self.dead.iter().map(|&new_node| self.helper_messages(new_node)).collect();
+        let steps: Vec<_> = self.dead.iter().map(|&new_node| self.first_step(new_node, &messages[new_node])).collect();
+        let mut wire = messages.concat();
+        for (&new_node, step) in self.dead.iter().zip(&steps) {
+            let received = self.received(new_node, &steps);
+            assert!(self.second_step(new_node, &step.pairs, &received) == self.archive.node(new_node));
+            wire.extend_from_slice(&received);
+        }
+        wire
+    }
+
+    /// The whole repair in one call: every node is as it was written. Gives the wire.
+    fn whole(&self) -> Vec<u16> {
+        let shape = self.archive.shape;
+        let mut nodes = self.archive.nodes.clone();
+        nodes[..self.dead.len() * shape.node_symbols().unwrap()].fill(65535);
+        let mut wire = vec![7; shape.wire_symbols(self.dead.len()).unwrap()];
+        with_little_stack("repair", || shape.repair(&self.dead, &self.helpers, &mut nodes, &mut wire));
+        assert!(nodes == self.archive.nodes);
+        wire
+    }
+}
+
+/// Every number of dead nodes whose batch divides the layers.
+#[test]
+fn repaired() {
+    for shape in SHAPES {
+        let archive = Archive::write(shape);
+        let counts = 1..shape.nodes - shape.data;
+        for dead in counts.filter(|&dead| shape.layers.is_multiple_of(shape.batch_layers(dead).unwrap())) {
+            let repair = Repair::new(&archive, dead);
+            assert!(repair.whole() == repair.by_steps(), "{shape:?}, {dead} dead");
+        }
+    }
+}

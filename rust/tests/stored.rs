@@ -1,0 +1,48 @@
+//! The cases whose outcome the programs of `tests/` work out from document 01 alone, run through the library: each line
+//! of a stored file has to come out as it stands there.
+
+mod stored {
+    pub mod card;
+    pub mod code;
+    pub mod digest;
+    pub mod forms;
+    pub mod plan;
+    pub mod repair;
+    pub mod steps;
+    pub mod trial;
+}
+
+use stored::{card, code, plan, repair, steps};
+
+/// Tells the first line that differs.
+fn assert_stored(made: &str, stored: &str) {
+    for (index, (line, expected)) in made.lines().zip(stored.lines()).enumerate() {
+        assert_eq!(line, expected, "line {}", index + 1);
+    }
+    assert!(made == stored, "{} lines, {} are stored", made.lines().count(), stored.lines().count());
+}
+
+#[test]
+fn archives() {
+    assert_stored(&code::lines(), include_str!("../../tests/stored/code.txt"));
+}
+
+#[test]
+fn calls_of_a_repair() {
+    assert_stored(&steps::lines(), include_str!("../../tests/stored/steps.txt"));
+}
+
+#[test]
+fn whole_repairs() {
+    assert_stored(&repair::lines(), include_str!("../../tests/stored/repair.txt"));
+}
+
+#[test]
+fn cards() {
+    assert_stored(&card::lines(), include_str!("../../tests/stored/card.txt"));
+}
+
+#[test]
+fn plans() {
+    assert_stored(&plan::lines(), include_str!("../../tests/stored/plan.txt"));
+}
