@@ -1,7 +1,7 @@
 #!/usr/bin/env python3
-"""What crates/samples_test must print: the samples of document 01 ("Samples on both edges"), its numbers written down.
+"""What rust/tests/stored.rs must make of the samples of document 01 ("Samples on both edges"), its numbers written down.
 
-    python3 tests/samples_expected.py > crates/samples_test/stdout
+    python3 tests/samples_expected.py > tests/stored/samples.txt
 
 Buffers that a call writes are lent filled with 9 (a dead node with 65535), so that a line shows what the call left alone.
 """

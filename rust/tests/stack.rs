@@ -6,7 +6,7 @@ use archive::{unpack, Checked, Header, Refusal, Shape};
 use std::thread;
 
 /// The stack of a thread, in bytes. The buffers stand outside; in them an archive takes 1440 KiB, one node 120 KiB.
-const ROOM: usize = 96 * 1024;
+const ROOM: usize = 64 * 1024;
 
 /// No archive is larger. With k = 6 and more, writing and restoring work few multipliers out first; with k = 5 they do
 /// not, and need more stack.

@@ -8,11 +8,12 @@ mod stored {
     pub mod forms;
     pub mod plan;
     pub mod repair;
+    pub mod samples;
     pub mod steps;
     pub mod trial;
 }
 
-use stored::{card, code, plan, repair, steps};
+use stored::{card, code, plan, repair, samples, steps};
 
 /// Tells the first line that differs.
 fn assert_stored(made: &str, stored: &str) {
@@ -20,6 +21,11 @@ fn assert_stored(made: &str, stored: &str) {
         assert_eq!(line, expected, "line {}", index + 1);
     }
     assert!(made == stored, "{} lines, {} are stored", made.lines().count(), stored.lines().count());
+}
+
+#[test]
+fn samples_of_document_01() {
+    assert_stored(&samples::lines(), include_str!("../../tests/stored/samples.txt"));
 }
 
 #[test]

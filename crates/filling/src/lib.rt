@@ -22,7 +22,7 @@ ghost use Rattle.shape.specs.Refusals.{shapeBad};
 ghost use Rattle.code.specs.Code.{narrow};
 ghost use Rattle.rows.specs.Rows.{mostPlaces, Low};
 ghost use Rattle.tables.specs.Tables.{tableSize, Marks, Table};
-ghost use Rattle.patterns.specs.Patterns.{patterns, Sources};
+ghost use Rattle.patterns.specs.Patterns.{patterns, Represented};
 ghost use Rattle.filling.specs.Filling.{Summable, Summed, Fillable, FilledRun, Filled, InLayers, Everywhere};
 
 // The sums, at a run of places, of the symbols in some rows of a buffer, each times its multiplier: those of the table's rows from `first` on.
@@ -83,18 +83,17 @@ fn fill_layers(
     list: &[usize],
     marked: [bool; MOST_NODES],
     few: bool,
-    zeros: &[u16],
-    ones: &[u16],
+    source: &[u16],
     table: &mut [u16],
     nodes: &mut [u16],
 )
-    requires { ⌜ (shapeBad s ≡ false) × Fillable (s .n) (size s) (now list) (now nodes) × Marks (s .n) (now list) marked × Sources (s .n) (s .n) (now list) marked few (now zeros) (now ones) × (run ≤ mostPlaces) × (a + run ≤ 2 ^ s .n) × (length (now table) ≡ tableSize) × Low (narrow .modulus) (now table) ⌝ }
+    requires { ⌜ (shapeBad s ≡ false) × Fillable (s .n) (size s) (now list) (now nodes) × Marks (s .n) (now list) marked × (few ≡ true → Represented (s .n) marked (now list) (s .n) (now source)) × (run ≤ mostPlaces) × (a + run ≤ 2 ^ s .n) × (length (now table) ≡ tableSize) × Low (narrow .modulus) (now table) ⌝ }
     ensures { λ _. ⌜ (length (now (table .exit)) ≡ tableSize) × Low (narrow .modulus) (now (table .exit)) × Filled (s .n) (size s) (now (list .entry)) (InLayers (s .n) a run (s .layers)) (now (nodes .entry)) (now (nodes .exit)) ⌝ }
 {
     let n = s.n;
     let layers = s.layers;
     let two = two_to(n);
-    run_multipliers(n, n, a, run, list, marked, few, zeros, ones, table);
+    run_multipliers(n, n, a, run, list, marked, few, source, table);
     for layer in 0..layers {
         fill_run(
             n,
@@ -124,11 +123,10 @@ fn fill_runs(
     list: &[usize],
     marked: [bool; MOST_NODES],
     few: bool,
-    zeros: &[u16],
-    ones: &[u16],
+    source: &[u16],
     nodes: &mut [u16],
 )
-    requires { ⌜ (shapeBad s ≡ false) × Fillable (s .n) (size s) (now list) (now nodes) × Marks (s .n) (now list) marked × Sources (s .n) (s .n) (now list) marked few (now zeros) (now ones) ⌝ }
+    requires { ⌜ (shapeBad s ≡ false) × Fillable (s .n) (size s) (now list) (now nodes) × Marks (s .n) (now list) marked × (few ≡ true → Represented (s .n) marked (now list) (s .n) (now source)) ⌝ }
     ensures { λ _. ⌜ Filled (s .n) (size s) (now (list .entry)) Everywhere (now (nodes .entry)) (now (nodes .exit)) ⌝ }
 {
     let n = s.n;
@@ -143,8 +141,7 @@ fn fill_runs(
             list,
             marked,
             few,
-            zeros,
-            ones,
+            source,
             &mut table,
             nodes,
         );
@@ -157,11 +154,9 @@ fn fill_from_few(s: Shape, list: &[usize], marked: [bool; MOST_NODES], nodes: &m
     ensures { λ _. ⌜ Filled (s .n) (size s) (now (list .entry)) Everywhere (now (nodes .entry)) (now (nodes .exit)) ⌝ }
 {
     let n = s.n;
-    let mut zeros = [0u16; TABLE];
-    let mut ones = [0u16; TABLE];
-    represent(n, n, 0, list, marked, &mut zeros);
-    represent(n, n, 1, list, marked, &mut ones);
-    fill_runs(s, list, marked, true, &zeros, &ones, nodes);
+    let mut source = [0u16; TABLE];
+    represent(n, n, list, marked, &mut source);
+    fill_runs(s, list, marked, true, &source, nodes);
 }
 
 // The nodes that are not listed, from those that are.
@@ -176,5 +171,5 @@ pub fn fill(s: Shape, list: &[usize], nodes: &mut [u16])
         return;
     }
     let none = [0u16; 1];
-    fill_runs(s, list, marked, false, &none, &none, nodes);
+    fill_runs(s, list, marked, false, &none, nodes);
 }

@@ -1,3 +1,4 @@
 -- Laws of multipliers, lowest first.
 pub mod Totals
 pub mod Multipliers
+pub mod Opposites

@@ -183,7 +183,7 @@ module _ (q : ℕ) (prime : Prime q) (ps : List ℕ) (points : Points q ps) (lis
   abbrev D : ℕ → ℕ → ℕ
   D x m = differences q ps list i x m
 
-  next-is : (x m : ℕ) → left list i m ≡ false → r (D x (suc m)) ≡ r (D x m) ⊗ (r x ⊖ r (P m))
+  pub next-is : (x m : ℕ) → left list i m ≡ false → r (D x (suc m)) ≡ r (D x m) ⊗ (r x ⊖ r (P m))
   next-is x m e = ap r (differences-next q ps list i x m e) ∙ res-mod q o _ ∙ res-mul q o _ _ ∙ ap (λ u. r (D x m) ⊗ u) (minus-is q prime x (P m))
 
   -- ---- where a product vanishes, and where not
@@ -202,7 +202,7 @@ module _ (q : ℕ) (prime : Prime q) (ps : List ℕ) (points : Points q ps) (lis
           next-is (P e) m g ∙ ap (λ u. r (D (P e) m) ⊗ (r (P e) ⊖ r (P u))) (sym d) ∙ ap (λ u. r (D (P e) m) ⊗ u) (self _) ∙ mul-zero (R q prime) _
       go false g (no d) ih = next-is (P e) m g ∙ ap (λ u. u ⊗ (r (P e) ⊖ r (P m))) (ih (omega arith)) ∙ zero-mul (R q prime) _
 
-  lasts : (m : ℕ) → m ≤ length ps → r (D (P i) m) ≢ 𝟘
+  pub lasts : (m : ℕ) → m ≤ length ps → r (D (P i) m) ≢ 𝟘
   lasts zero h = λ e. K .one-ne-zero (one-is q o ∙ sym (ap r (differences-none q ps list i (P i))) ∙ e)
   lasts (suc m) h = go (left list i m) refl (lasts m (omega arith))
     where
@@ -226,6 +226,17 @@ module _ (q : ℕ) (prime : Prime q) (ps : List ℕ) (points : Points q ps) (lis
   -- the divisor is not 0
   pub divisor-nonzero : differences q ps list i (getD ps i 0) (length ps) ≢ 0
   divisor-nonzero e = lasts n (omega arith) (ap r e ∙ sym (zero-is q o))
+
+  -- a multiplier as a quotient of residues
+  abbrev s : Residue q
+  s = K .inv (r (D (P i) n))
+
+  pub multiplier-is : (j : ℕ) → r (multiplier q ps list i j) ≡ (𝟘 ⊖ r (D (P (getD list j 0)) n)) ⊗ s
+  unfolding multiplier inverse
+  multiplier-is j =
+      res-mod q o _ ∙ res-mul q o _ _
+      ∙ ap₂ _⊗_ (minus-is q prime 0 _ ∙ ap (λ u. u ⊖ r (D (P (getD list j 0)) n)) (sym (zero-is q o)))
+      (res-mod q o _ ∙ res-pow q o _ (q - 2) ∙ sym (field-inv q prime _))
 
   -- ---- the sum of a column's entries, each times a product
 
@@ -309,22 +320,12 @@ module _ (q : ℕ) (prime : Prime q) (ps : List ℕ) (points : Points q ps) (lis
         sum-split n list up weight
         ∙ ap₂ _+_ (over-sum list weight ∙ sum-ext (length list) _ _ (λ j l. ap (λ u. D (P (getD list j 0)) n * u) (is .listed j l))) rest
 
-    abbrev s : Residue q
-    s = K .inv (r (D (P i) n))
-
     -- the missing entry is a quotient
     quotient : r (c i) ≡ (𝟘 ⊖ r known) ⊗ s
     quotient =
         div-intro K _ _ _ (lasts n (omega arith))
         (opposite (R q prime) (r known) _ _
         (sym (res-add q o known (weight i) ∙ ap (λ u. r known ⊕ u) (res-mul q o _ _)) ∙ ap r (sym parts) ∙ res-zero q o _ .0 balance))
-
-    multiplier-is : (j : ℕ) → r (multiplier q ps list i j) ≡ (𝟘 ⊖ r (D (P (getD list j 0)) n)) ⊗ s
-    unfolding multiplier inverse
-    multiplier-is j =
-        res-mod q o _ ∙ res-mul q o _ _
-        ∙ ap₂ _⊗_ (minus-is q prime 0 _ ∙ ap (λ u. u ⊖ r (D (P (getD list j 0)) n)) (sym (zero-is q o)))
-        (res-mod q o _ ∙ res-pow q o _ (q - 2) ∙ sym (field-inv q prime _))
 
     -- a missing entry is the sum of the listed values times the multipliers
     pub missing-sum : getD (completed q ps list values) i 0 ≡ sum (length list) (λ j. multiplier q ps list i j * values j) % q

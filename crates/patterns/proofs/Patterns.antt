@@ -1,8 +1,8 @@
 -- Patterns, a node at a time.
-use mathlib.Core.Path.{_≡_, refl, sym, ap, _∙_}
+use mathlib.Core.Path.{_≡_, refl, sym, ap, ap₂, _∙_}
 use mathlib.Core.Bool.{Bool, true, false, true≢false}
 use mathlib.Core.List.{List}
-use Prim.Native.Nat.{ℕ, zero, suc, _+_, _*_, _/_, _%_, _^_, _<_, _≤_}
+use Prim.Native.Nat.{ℕ, zero, suc, _+_, _-_, _*_, _/_, _%_, _^_, _<_, _≤_}
 use native.Mathlib.Nat.{pow-succ', div-div-eq-div-mul, div-one, mul-le-mul, mul-le-mul-right}
 use native.Mathlib.Numerals.{add-one}
 use native.Mathlib.Omega.{arith}
@@ -82,6 +82,37 @@ module _ (marked : List Bool) where
       ap (λ k. getD after k 0) (let z : t ≡ 0 + t = omega arith in z) ∙ put .there t l
       ∙ ap (λ z. 2 * z + bit node (a + t)) (h t l) ∙ sym (pattern-more (a + t) node e)
 
+-- ---- all bits turned
+
+pub turned-bit : (n a e : ℕ) → a < 2 ^ n → e < n → bit e (2 ^ n - 1 - a) + bit e a ≡ 1
+turned-bit zero a e h l = absurd (omega arith)
+turned-bit (suc n) a zero h l =
+    let t : 2 ^ suc n ≡ 2 * 2 ^ n = pow-succ' 2 n in
+    omega (arith, bit-zero a, bit-zero (2 ^ suc n - 1 - a), t)
+turned-bit (suc n) a (suc e) h l = go (turned-bit n (a / 2) e half (omega arith))
+  where
+    t : 2 ^ suc n ≡ 2 * 2 ^ n
+    t = pow-succ' 2 n
+
+    half : a / 2 < 2 ^ n
+    half = omega (arith, t)
+
+    rest : (2 ^ suc n - 1 - a) / 2 ≡ 2 ^ n - 1 - a / 2
+    rest = omega (arith, t)
+
+    go : bit e (2 ^ n - 1 - a / 2) + bit e (a / 2) ≡ 1 → bit (suc e) (2 ^ suc n - 1 - a) + bit (suc e) a ≡ 1
+    go ih = ap₂ _+_ (bit-suc e (2 ^ suc n - 1 - a) ∙ ap (bit e) rest) (bit-suc e a) ∙ ih
+
+-- the pattern is then the opposite one
+pub pattern-turned : (marked : List Bool) (a b m : ℕ) → ((e : ℕ) → e < m → bit e b + bit e a ≡ 1) → pattern marked b m + pattern marked a m + 1 ≡ patterns marked m
+pattern-turned marked a b zero h = rw (pattern-none marked a, pattern-none marked b, patterns-none marked)
+pattern-turned marked a b (suc m) h = rw (add-one m) at (go (getD marked m false) refl (pattern-turned marked a b m (λ e l. h e (omega arith))))
+  where
+    go : (x : Bool) → getD marked m false ≡ x → pattern marked b m + pattern marked a m + 1 ≡ patterns marked m
+        → pattern marked b (m + 1) + pattern marked a (m + 1) + 1 ≡ patterns marked (m + 1)
+    go true e ih = rw (pattern-skip marked a m e, pattern-skip marked b m e, patterns-skip marked m e) ih
+    go false e ih = omega (arith, pattern-more marked a m e, pattern-more marked b m e, patterns-more marked m e, ih, h m (omega arith))
+
 -- ---- the number of a pattern
 
 bit-first : (o d : ℕ) → d < 2 → bit 0 (2 * o + d) ≡ d
@@ -90,20 +121,20 @@ bit-first o d h = bit-zero (2 * o + d) ∙ (let z : (2 * o + d) % 2 ≡ d = omeg
 bit-next : (e o d : ℕ) → d < 2 → bit (suc e) (2 * o + d) ≡ bit e o
 bit-next e o d h = bit-suc e (2 * o + d) ∙ ap (bit e) (let z : (2 * o + d) / 2 ≡ o = omega arith in z)
 
-module _ (n same : ℕ) (marked : List Bool) (p : ℕ) where
-  pub making-none : Making n same marked p n p 0
+module _ (n : ℕ) (marked : List Bool) (p : ℕ) where
+  pub making-none : Making n marked p n p 0
   making-none = record { small = omega arith; left = λ a e. e; free = λ a e z h. absurd (omega arith); fixed = λ e h. absurd (omega arith) }
 
-  pub making-low : (i rest out : ℕ) → n ≤ mostNodes → Making n same marked p i rest out → out < 2 ^ mostNodes
+  pub making-low : (i rest out : ℕ) → n ≤ mostNodes → Making n marked p i rest out → out < 2 ^ mostNodes
   making-low i rest out h w = omega (arith, w .small, pow-mono h, mul-le-mul (let z : out + 1 ≤ out + 1 = omega arith in z) (pow-pos i))
 
-  pub making-end : (rest out : ℕ) → Making n same marked p 0 rest out → Stands n same marked p out
+  pub making-end : (rest out : ℕ) → Making n marked p 0 rest out → Stands n marked p out
   making-end rest out w = record {
     free = λ a e z h u. let s : 0 + e ≡ e = omega arith in w .free a e z (rw s h) (rw s u) ∙ ap (λ k. bit k a) s;
     fixed = λ e h u. let s : 0 + e ≡ e = omega arith in w .fixed e (rw s h) (rw s u);
   }
 
-  module _ (i rest out : ℕ) (w : Making n same marked p (i + 1) rest out) where
+  module _ (i rest out : ℕ) (w : Making n marked p (i + 1) rest out) where
     room : (d : ℕ) → d < 2 → (2 * out + d + 1) * 2 ^ i ≤ 2 ^ n
     room d h = omega (arith, rw (twice i) at (w .small), mul-le-mul-right (2 ^ i) (let z : 2 * out + d + 1 ≤ 2 * out + 2 = omega arith in z))
 
@@ -111,26 +142,26 @@ module _ (n same : ℕ) (marked : List Bool) (p : ℕ) where
     later-free : (d : ℕ) → d < 2 → (a e : ℕ) → p ≡ pattern marked a n → i + suc e < n → getD marked (i + suc e) false ≡ false → bit (suc e) (2 * out + d) ≡ bit (i + suc e) a
     later-free d h a e z l u = let s : i + suc e ≡ i + 1 + e = omega arith in bit-next e out d h ∙ w .free a e z (rw (← s) l) (rw (← s) u) ∙ ap (λ k. bit k a) (sym s)
 
-    later-fixed : (d : ℕ) → d < 2 → (e : ℕ) → i + suc e < n → getD marked (i + suc e) false ≡ true → bit (suc e) (2 * out + d) ≡ same
+    later-fixed : (d : ℕ) → d < 2 → (e : ℕ) → i + suc e < n → getD marked (i + suc e) false ≡ true → bit (suc e) (2 * out + d) ≡ 0
     later-fixed d h e l u = let s : i + suc e ≡ i + 1 + e = omega arith in bit-next e out d h ∙ w .fixed e (rw (← s) l) (rw (← s) u)
 
-    pub making-fixed : same < 2 → getD marked i false ≡ true → Making n same marked p i rest (2 * out + same)
-    making-fixed h m = record {
-      small = room same h;
+    pub making-fixed : getD marked i false ≡ true → Making n marked p i rest (2 * out)
+    making-fixed m = rw (let z : 2 * out ≡ 2 * out + 0 = omega arith in z) (record {
+      small = room 0 (omega arith);
       left = λ a z. w .left a z ∙ pattern-skip marked a i m;
       free = free;
       fixed = fixed;
-    }
+    })
       where
-        free : (a e : ℕ) → p ≡ pattern marked a n → i + e < n → getD marked (i + e) false ≡ false → bit e (2 * out + same) ≡ bit (i + e) a
+        free : (a e : ℕ) → p ≡ pattern marked a n → i + e < n → getD marked (i + e) false ≡ false → bit e (2 * out + 0) ≡ bit (i + e) a
         free a zero z l u = absurd (true≢false (sym m ∙ ap (λ k. getD marked k false) (let s : i ≡ i + 0 = omega arith in s) ∙ u))
-        free a (suc e) z l u = later-free same h a e z l u
+        free a (suc e) z l u = later-free 0 (omega arith) a e z l u
 
-        fixed : (e : ℕ) → i + e < n → getD marked (i + e) false ≡ true → bit e (2 * out + same) ≡ same
-        fixed zero l u = bit-first out same h
-        fixed (suc e) l u = later-fixed same h e l u
+        fixed : (e : ℕ) → i + e < n → getD marked (i + e) false ≡ true → bit e (2 * out + 0) ≡ 0
+        fixed zero l u = bit-first out 0 (omega arith)
+        fixed (suc e) l u = later-fixed 0 (omega arith) e l u
 
-    pub making-free : getD marked i false ≡ false → Making n same marked p i (rest / 2) (2 * out + rest % 2)
+    pub making-free : getD marked i false ≡ false → Making n marked p i (rest / 2) (2 * out + rest % 2)
     making-free m = record {
       small = room (rest % 2) (omega arith);
       left = λ a z. omega (arith, split a z, bit-lt i a);
@@ -145,6 +176,6 @@ module _ (n same : ℕ) (marked : List Bool) (p : ℕ) where
         free a zero z l u = bit-first out (rest % 2) (omega arith) ∙ (let s : rest % 2 ≡ bit i a = omega (arith, split a z, bit-lt i a) in s) ∙ ap (λ k. bit k a) (let s : i ≡ i + 0 = omega arith in s)
         free a (suc e) z l u = later-free (rest % 2) (omega arith) a e z l u
 
-        fixed : (e : ℕ) → i + e < n → getD marked (i + e) false ≡ true → bit e (2 * out + rest % 2) ≡ same
+        fixed : (e : ℕ) → i + e < n → getD marked (i + e) false ≡ true → bit e (2 * out + rest % 2) ≡ 0
         fixed zero l u = absurd (true≢false (sym u ∙ ap (λ k. getD marked k false) (let s : i + 0 ≡ i = omega arith in s) ∙ m))
         fixed (suc e) l u = later-fixed (rest % 2) (omega arith) e l u

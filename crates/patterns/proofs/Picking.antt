@@ -3,94 +3,159 @@ use mathlib.Core.Path.{_≡_, refl, sym, ap, _∙_}
 use mathlib.Core.Logic.{_≢_}
 use mathlib.Core.Bool.{Bool, true, false, cond}
 use mathlib.Core.List.{List}
-use Prim.Native.Nat.{ℕ, zero, _+_, _*_, _<_, _≤_}
+use Prim.Native.Nat.{ℕ, _+_, _-_, _*_, _%_, _^_, _<_, _≤_}
 use native.Mathlib.Decide.{ℕ-discrete}
 use native.Mathlib.Omega.{arith}
-use borrow.Author.Tests.{eqb-true, eqb-false}
+use borrow.Author.Tests.{eqb-true, eqb-false, eq-eqb, ne-eqb}
 use lib.Dec.{eqb}
 use lib.ListN.{length, getD}
 use Rattle.lists.specs.Lists.{member, rising}
 use Rattle.lists.specs.Digits.{bit}
 use Rattle.lists.proofs.Members.{rising-below, member-of}
 use Rattle.lists.proofs.Flips.{bit-lt}
-use Rattle.code.specs.Code.{narrow, point, points}
-use Rattle.code.proofs.NodePoints.{points-length, points-at}
+use Rattle.shape.specs.Shape.{mostNodes}
+use Rattle.code.specs.Code.{narrow, basePoint, point, points, GoodCode}
+use Rattle.code.proofs.NodePoints.{good-fewer, points-length, points-at, points-good}
+use Rattle.code.proofs.Narrow.{narrow-good}
 use Rattle.rows.specs.Rows.{mostPlaces, Stored}
 use Rattle.rows.proofs.Rows.{stored-low}
 use Rattle.multipliers.specs.Multipliers.{multiplier}
 use Rattle.multipliers.proofs.Multipliers.{multiplier-ext}
+use Rattle.multipliers.proofs.Opposites.{multiplier-opposite}
 use Rattle.tables.specs.Tables.{MultiplierRow, NodeRows}
-use Rattle.patterns.specs.Patterns.{pattern, patterns, Stands, Represented, picked, Pickable}
-use Rattle.patterns.proofs.Patterns.{pattern-lt}
+use Rattle.patterns.specs.Patterns.{pattern, patterns, Stands, lookedUp, picked, Pickable}
+use Rattle.patterns.proofs.Patterns.{pattern-lt, turned-bit, pattern-turned}
 
 abbrev q : ℕ
 q = narrow .modulus
 
--- a point is fixed by a bit
-point-by-bit : (a b e : ℕ) → bit e a ≡ bit e b → point narrow a e ≡ point narrow b e
-unfolding point
-point-by-bit a b e h = rw h refl
+module _ (n : ℕ) (high : n ≤ mostNodes) (a b : ℕ) (list : List ℕ) (up : rising 0 n list ≡ true) (i j : ℕ) (within : i < n) (unlisted : member i list ≡ false)
+    (listed : j < length list) where
+  -- a point is fixed by a bit
+  same-point : (e : ℕ) → e < n → bit e a ≡ bit e b → getD (points narrow n a) e 0 ≡ getD (points narrow n b) e 0
+  unfolding point
+  same-point e h s = points-at narrow n a e h ∙ ap (λ x. cond (eqb x 0) (basePoint narrow e) (q - basePoint narrow e)) s ∙ sym (points-at narrow n b e h)
 
-multiplier-by-bits : (n a b : ℕ) (list : List ℕ) (i j : ℕ) → rising 0 n list ≡ true → i < n → member i list ≡ false → j < length list
-    → ((e : ℕ) → e < n → member e list ≡ false → bit e a ≡ bit e b) → bit (getD list j 0) a ≡ bit (getD list j 0) b
-    → multiplier q (points narrow n a) list i j ≡ multiplier q (points narrow n b) list i j
-multiplier-by-bits n a b list i j up h u l others own =
-    multiplier-ext q (points narrow n a) (points narrow n b) list i j (points-length narrow n a ∙ sym (points-length narrow n b)) (rw (points-length narrow n a) h) u
-    (λ e k z. let y : e < n = rw (points-length narrow n a) at k in same e y (others e y z))
-    (same (getD list j 0) (rising-below n list up j l) own)
-  where
-    same : (e : ℕ) → e < n → bit e a ≡ bit e b → getD (points narrow n a) e 0 ≡ getD (points narrow n b) e 0
-    same e y z = points-at narrow n a e y ∙ point-by-bit a b e z ∙ sym (points-at narrow n b e y)
+  pub multiplier-by-bits : ((e : ℕ) → e < n → member e list ≡ false → bit e a ≡ bit e b) → bit (getD list j 0) a ≡ bit (getD list j 0) b
+      → multiplier q (points narrow n a) list i j ≡ multiplier q (points narrow n b) list i j
+  multiplier-by-bits others own =
+      multiplier-ext q (points narrow n a) (points narrow n b) list i j (points-length narrow n a ∙ sym (points-length narrow n b))
+      (rw (points-length narrow n a) within) unlisted
+      (λ e k z. let y : e < n = rw (points-length narrow n a) at k in same-point e y (others e y z))
+      (same-point (getD list j 0) (rising-below n list up j listed) own)
 
-module _ (n m a run : ℕ) (list : List ℕ) (marked : List Bool) (picks zeros ones : List ℕ) (w : Pickable n m a run list marked picks zeros ones) where
-  module _ (same : ℕ) (source : List ℕ) (r : Represented n same marked list m source) where
-    -- what the table of one bit has for a place
-    from-one : (i j t : ℕ) → i < m → member i list ≡ false → j < length list → t < run → bit (getD list j 0) (a + t) ≡ same
+  good : GoodCode narrow n
+  good = good-fewer narrow mostNodes n high narrow-good
+
+  -- and turns into its opposite with the bit
+  point-sum : (e : ℕ) → e < n → bit e a + bit e b ≡ 1 → (point narrow a e + point narrow b e) % q ≡ 0
+  unfolding point
+  point-sum e h s = go (ℕ-discrete (bit e a) 0)
+    where
+      low : basePoint narrow e < q
+      low = good .high e h
+
+      sums : (x y : ℕ) → x + y ≡ q → (x + y) % q ≡ 0
+      sums x y z = rw z (omega arith)
+
+      go : Dec (bit e a ≡ 0)
+          → (cond (eqb (bit e a) 0) (basePoint narrow e) (q - basePoint narrow e) + cond (eqb (bit e b) 0) (basePoint narrow e) (q - basePoint narrow e)) % q ≡ 0
+      go (yes z) = rw (eq-eqb _ _ z, ne-eqb (bit e b) 0 (λ d. omega arith)) (sums (basePoint narrow e) (q - basePoint narrow e) (omega (arith, low)))
+      go (no z) = rw (ne-eqb _ _ z, eq-eqb (bit e b) 0 (omega (arith, z))) (sums (q - basePoint narrow e) (basePoint narrow e) (omega (arith, low)))
+
+  pub multiplier-by-turned-bits : ((e : ℕ) → e < n → member e list ≡ false → bit e a + bit e b ≡ 1) → bit (getD list j 0) a + bit (getD list j 0) b ≡ 1
+      → multiplier q (points narrow n a) list i j ≡ multiplier q (points narrow n b) list i j
+  multiplier-by-turned-bits others own =
+      multiplier-opposite q (good .prime) (points narrow n a) (points narrow n b) (points-good narrow n good a) (points-good narrow n good b) list
+      (rw (points-length narrow n a) up) (rw (points-length narrow n b) up) (points-length narrow n b ∙ sym (points-length narrow n a))
+      i (rw (points-length narrow n a) within) unlisted
+      (λ e k z. let y : e < n = rw (points-length narrow n a) at k in turned e y (others e y z))
+      j (turned (getD list j 0) (rising-below n list up j listed) own)
+    where
+      turned : (e : ℕ) → e < n → bit e a + bit e b ≡ 1 → (getD (points narrow n a) e 0 + getD (points narrow n b) e 0) % q ≡ 0
+      turned e h s = rw (points-at narrow n a e h, points-at narrow n b e h) (point-sum e h s)
+
+module _ (n m a run : ℕ) (list : List ℕ) (marked : List Bool) (picks : List ℕ) (last : ℕ) (source : List ℕ) (w : Pickable n m a run list marked picks last source) where
+  module _ (i j t : ℕ) (within : i < m) (unlisted : member i list ≡ false) (listed : j < length list) (inside : t < run) where
+    abbrev node : ℕ
+    node = getD list j 0
+
+    below : i < n
+    below = omega (arith, w .inside)
+
+    node-below : node < n
+    node-below = rising-below n list (w .up) j listed
+
+    node-marked : getD marked node false ≡ true
+    node-marked = w .marks .each node node-below ∙ member-of list j listed
+
+    -- what the table has for a pattern
+    module _ (p : ℕ) (small : p < patterns marked n) where
+      held : getD source ((i * length list + j) * mostPlaces + p) 0 ≡ multiplier q (points narrow n (w .held .each p)) list i j
+      held = w .held .held .each i j within unlisted listed .each p small
+
+      stands : Stands n marked p (w .held .each p)
+      stands = w .held .stands p small
+
+    -- that of the place, where the listed node's bit is 0
+    plain : bit node (a + t) ≡ 0
         → getD source ((i * length list + j) * mostPlaces + getD picks t 0) 0 ≡ multiplier q (points narrow n (a + t)) list i j
-    from-one i j t h u l g e =
-        ap (λ p. getD source ((i * length list + j) * mostPlaces + p) 0) (w .picks-are t g)
-        ∙ r .held .each i j h u l .each (pattern marked (a + t) n) small
-        ∙ multiplier-by-bits n (r .each (pattern marked (a + t) n)) (a + t) list i j (w .up) (omega (arith, w .inside)) u l
-        (λ x k z. stands .free (a + t) x refl k (w .marks .each x k ∙ z)) (stands .fixed (getD list j 0) node (w .marks .each _ node ∙ listed) ∙ sym e)
+    plain e =
+        ap (λ p. getD source ((i * length list + j) * mostPlaces + p) 0) (w .picks-are t inside) ∙ held p small
+        ∙ multiplier-by-bits n (w .high) (w .held .each p) (a + t) list (w .up) i j below unlisted listed
+        (λ x k z. stands p small .free (a + t) x refl k (w .marks .each x k ∙ z)) (stands p small .fixed node node-below node-marked ∙ sym e)
       where
-        small : pattern marked (a + t) n < patterns marked n
+        p : ℕ
+        p = pattern marked (a + t) n
+
+        small : p < patterns marked n
         small = pattern-lt marked (a + t) n
 
-        stands : Stands n same marked (pattern marked (a + t) n) (r .each (pattern marked (a + t) n))
-        stands = r .stands (pattern marked (a + t) n) small
+    -- the opposite one, where it is 1
+    opposite : bit node (a + t) ≡ 1
+        → getD source ((i * length list + j) * mostPlaces + (last - getD picks t 0)) 0 ≡ multiplier q (points narrow n (a + t)) list i j
+    opposite e =
+        ap (λ p. getD source ((i * length list + j) * mostPlaces + p) 0) index ∙ held p small
+        ∙ multiplier-by-turned-bits n (w .high) (w .held .each p) (a + t) list (w .up) i j below unlisted listed
+        (λ x k z. ap (λ y. y + bit x (a + t)) (stands p small .free b x refl k (w .marks .each x k ∙ z)) ∙ bits x k)
+        (ap (λ y. y + bit node (a + t)) (stands p small .fixed node node-below node-marked) ∙ omega (arith, e))
+      where
+        b : ℕ
+        b = 2 ^ n - 1 - (a + t)
 
-        node : getD list j 0 < n
-        node = rising-below n list (w .up) j l
+        bits : (x : ℕ) → x < n → bit x b + bit x (a + t) ≡ 1
+        bits x k = turned-bit n (a + t) x (omega (arith, w .low)) k
 
-        listed : member (getD list j 0) list ≡ true
-        listed = member-of list j l
+        p : ℕ
+        p = pattern marked b n
 
-  -- and what is picked
-  from-two : (i j t : ℕ) → i < m → member i list ≡ false → j < length list → t < run
-      → picked a (getD list j 0) picks zeros ones ((i * length list + j) * mostPlaces) t ≡ multiplier q (points narrow n (a + t)) list i j
+        small : p < patterns marked n
+        small = pattern-lt marked b n
+
+        index : last - getD picks t 0 ≡ p
+        index = omega (arith, w .picks-are t inside, w .last-is, pattern-turned marked (a + t) b n bits)
+
+    -- and what is picked
+    chosen : picked a node picks last source ((i * length list + j) * mostPlaces) t ≡ multiplier q (points narrow n (a + t)) list i j
+    unfolding picked lookedUp
+    chosen = go (eqb (bit node (a + t)) 0) refl
+      where
+        go : (b : Bool) → eqb (bit node (a + t)) 0 ≡ b
+            → getD source ((i * length list + j) * mostPlaces + cond (eqb (bit node (a + t)) 0) (getD picks t 0) (last - getD picks t 0)) 0
+            ≡ multiplier q (points narrow n (a + t)) list i j
+        go true e = rw e (plain (eqb-true _ _ e))
+        go false e = rw e (opposite (let z : bit node (a + t) ≢ 0 = eqb-false _ _ e in omega (arith, z, bit-lt node (a + t))))
+
+  picked-low : (node at t : ℕ) → picked a node picks last source at t < q
   unfolding picked
-  from-two i j t h u l g = go (eqb (bit (getD list j 0) (a + t)) 0) refl
-    where
-      go : (b : Bool) → eqb (bit (getD list j 0) (a + t)) 0 ≡ b
-          → cond (eqb (bit (getD list j 0) (a + t)) 0) (getD zeros ((i * length list + j) * mostPlaces + getD picks t 0) 0) (getD ones ((i * length list + j) * mostPlaces + getD picks t 0) 0)
-          ≡ multiplier q (points narrow n (a + t)) list i j
-      go true e = rw e (from-one 0 zeros (w .zero) i j t h u l g (eqb-true _ _ e))
-      go false e = rw e (from-one 1 ones (w .one) i j t h u l g (let z : bit (getD list j 0) (a + t) ≢ 0 = eqb-false _ _ e in omega (arith, z, bit-lt (getD list j 0) (a + t))))
-
-  picked-low : (node at t : ℕ) → picked a node picks zeros ones at t < narrow .modulus
-  unfolding picked
-  picked-low node at t = go (eqb (bit node (a + t)) 0)
-    where
-      go : (b : Bool) → cond b (getD zeros (at + getD picks t 0) 0) (getD ones (at + getD picks t 0) 0) < narrow .modulus
-      go true = w .zero .held .low .at _
-      go false = w .one .held .low .at _
+  picked-low node at t = w .held .held .low .at _
 
   module _ (i : ℕ) (within : i < m) (u : member i list ≡ false) where
     pub picks-none : (before : List ℕ) → NodeRows n (_+_ a) run list i 0 before before
     picks-none before = record { low = λ l. l; kept = λ e h. refl; made = λ j h. absurd (omega arith) }
 
     pub picks-more : (j : ℕ) (before now after : List ℕ) → run ≤ mostPlaces → j < length list → NodeRows n (_+_ a) run list i j before now
-        → Stored ((i * length list + j) * mostPlaces) run (picked a (getD list j 0) picks zeros ones ((i * length list + j) * mostPlaces)) now after
+        → Stored ((i * length list + j) * mostPlaces) run (picked a (getD list j 0) picks last source ((i * length list + j) * mostPlaces)) now after
         → NodeRows n (_+_ a) run list i (j + 1) before after
     picks-more j before now after few h so-far put = record {
       low = λ l. stored-low q _ run _ now after put (so-far .low l) (λ t g. picked-low (getD list j 0) _ t);
@@ -100,4 +165,4 @@ module _ (n m a run : ℕ) (list : List ℕ) (marked : List Bool) (picks zeros o
       where
         go : (x : ℕ) → x < j + 1 → Dec (x ≡ j) → MultiplierRow n (_+_ a) run list after i x
         go x l (no d) = record { each = λ t g. put .ahead _ (omega arith) ∙ so-far .made x (omega arith) .each t g }
-        go x l (yes d) = rw d (record { each = λ t g. put .there t g ∙ from-two i j t within u h g })
+        go x l (yes d) = rw d (record { each = λ t g. put .there t g ∙ chosen i j t within u h g })

@@ -1,13 +1,13 @@
 // The multipliers of a run of places, picked from those of few a: a multiplier reads the points of its listed node and of the nodes that are
-// not listed, that is, a's bits there. So each pattern of the bits at the nodes that are not listed is worked out twice, once with the bits
-// of the listed nodes 0 and once with them 1, and every other a picks from these two.
+// not listed, that is, a's bits there, and stays where all of them turn. So one a is worked out for each pattern of the bits at the nodes
+// that are not listed, with the bits of the listed nodes 0; where the bit of a listed node is 1, the opposite pattern serves.
 use rows::RUN;
 use shape::MOST_NODES;
 use shape::two_to;
 use tables::multipliers;
 use tables::multipliers_at;
 ghost use mathlib.Core.Path.{_≡_};
-ghost use mathlib.Core.Bool.{Bool, true, false, cond};
+ghost use mathlib.Core.Bool.{Bool, true, false};
 ghost use mathlib.Core.List.{List};
 ghost use Prim.Native.Nat.{ℕ, _+_, _*_, _^_, _<_, _≤_};
 ghost use lib.ListN.{length, getD};
@@ -18,7 +18,7 @@ ghost use Rattle.column.specs.Solving.{element};
 ghost use Rattle.code.specs.Code.{narrow};
 ghost use Rattle.rows.specs.Rows.{mostPlaces, Low, Stored};
 ghost use Rattle.tables.specs.Tables.{tableSize, Marks, NodeRows, Table};
-ghost use Rattle.patterns.specs.Patterns.{pattern, patterns, lengthened, Stands, Represented, picked, Pickable, Sources};
+ghost use Rattle.patterns.specs.Patterns.{pattern, patterns, lengthened, lookedUp, Stands, Represented, picked, Pickable};
 
 fn bit(a: usize, i: usize) -> usize
     requires { ⌜ i < mostNodes ⌝ }
@@ -58,10 +58,10 @@ pub fn pays(n: usize, marked: [bool; MOST_NODES]) -> bool
     8 * patterns <= two
 }
 
-// The number with a pattern's bits at the nodes that are not listed, and the same bit at those that are.
-fn number_of(n: usize, marked: [bool; MOST_NODES], same: usize, pattern: usize) -> usize
-    requires { ⌜ (n ≤ mostNodes) × (same < 2) ⌝ }
-    ensures { λ out. ⌜ Stands n same marked pattern out ⌝ }
+// The number with a pattern's bits at the nodes that are not listed, and 0 at those that are.
+fn number_of(n: usize, marked: [bool; MOST_NODES], pattern: usize) -> usize
+    requires { ⌜ n ≤ mostNodes ⌝ }
+    ensures { λ out. ⌜ Stands n marked pattern out ⌝ }
 {
     let mut rest = pattern;
     let mut out = 0;
@@ -69,7 +69,7 @@ fn number_of(n: usize, marked: [bool; MOST_NODES], same: usize, pattern: usize) 
     while 0 < i {
         i -= 1;
         if marked[i] {
-            out = 2 * out + same;
+            out = 2 * out;
             continue;
         }
         out = 2 * out + rest % 2;
@@ -79,31 +79,24 @@ fn number_of(n: usize, marked: [bool; MOST_NODES], same: usize, pattern: usize) 
 }
 
 // Such a number for each pattern.
-fn numbers_of(n: usize, marked: [bool; MOST_NODES], same: usize, count: usize) -> [usize; RUN]
-    requires { ⌜ (n ≤ mostNodes) × (same < 2) × (count ≤ mostPlaces) ⌝ }
-    ensures { λ out. ⌜ (length out ≡ mostPlaces) × ((p : ℕ) → p < count → Stands n same marked p (element out p)) ⌝ }
+fn numbers_of(n: usize, marked: [bool; MOST_NODES], count: usize) -> [usize; RUN]
+    requires { ⌜ (n ≤ mostNodes) × (count ≤ mostPlaces) ⌝ }
+    ensures { λ out. ⌜ (length out ≡ mostPlaces) × ((p : ℕ) → p < count → Stands n marked p (element out p)) ⌝ }
 {
     let mut out = [0usize; RUN];
     for p in 0..count {
-        out[p] = number_of(n, marked, same, p);
+        out[p] = number_of(n, marked, p);
     }
     out
 }
 
 // Their multipliers in each node below m that is not listed.
-pub fn represent(
-    n: usize,
-    m: usize,
-    same: usize,
-    list: &[usize],
-    marked: [bool; MOST_NODES],
-    table: &mut [u16],
-)
-    requires { ⌜ (n ≤ mostNodes) × (m ≤ n) × (same < 2) × (patterns marked n ≤ mostPlaces) × (rising 0 n (now list) ≡ true) × Marks n (now list) marked × (length (now table) ≡ tableSize) × Low (narrow .modulus) (now table) ⌝ }
-    ensures { λ _. ⌜ Represented n same marked (now (list .entry)) m (now (table .exit)) ⌝ }
+pub fn represent(n: usize, m: usize, list: &[usize], marked: [bool; MOST_NODES], table: &mut [u16])
+    requires { ⌜ (n ≤ mostNodes) × (m ≤ n) × (patterns marked n ≤ mostPlaces) × (rising 0 n (now list) ≡ true) × Marks n (now list) marked × (length (now table) ≡ tableSize) × Low (narrow .modulus) (now table) ⌝ }
+    ensures { λ _. ⌜ Represented n marked (now (list .entry)) m (now (table .exit)) ⌝ }
 {
     let few = count(n, marked);
-    let each = numbers_of(n, marked, same, few);
+    let each = numbers_of(n, marked, few);
     multipliers_at(n, m, &each, few, list, marked, table);
 }
 
@@ -132,29 +125,31 @@ fn patterns_of(n: usize, marked: [bool; MOST_NODES], a: usize, run: usize) -> [u
     out
 }
 
-fn chosen(first: bool, x: u16, y: u16) -> u16
-    ensures { λ r. ⌜ r ≡ cond first x y ⌝ }
+// The pattern to look under, of those up to `last`: the opposite one where a bit is 1.
+fn looked_up(bit: usize, pattern: usize, last: usize) -> usize
+    requires { ⌜ pattern ≤ last ⌝ }
+    ensures { λ r. ⌜ (r ≡ lookedUp bit pattern last) × (r ≤ last) ⌝ }
 {
-    if first { x } else { y }
+    if bit == 0 { pattern } else { last - pattern }
 }
 
-// A row of a table, each element picked from the same row of one of two tables: the first where the bit of a node is 0.
+// A row of a table, each element picked from the same row of the table of few a, by the bit of a node.
 fn pick_row(
     node: usize,
     a: usize,
     run: usize,
     picks: &[usize],
-    zeros: &[u16],
-    ones: &[u16],
+    last: usize,
+    source: &[u16],
     at: usize,
     table: &mut [u16],
 )
-    requires { ⌜ (node < mostNodes) × (a + run ≤ 2 ^ mostNodes) × (run ≤ length (now picks)) × ((t : ℕ) → t < run → getD (now picks) t 0 < mostPlaces) × (at + mostPlaces ≤ length (now zeros)) × (at + mostPlaces ≤ length (now ones)) × (at + run ≤ length (now table)) ⌝ }
-    ensures { λ _. ⌜ Stored at run (picked a node (now (picks .entry)) (now (zeros .entry)) (now (ones .entry)) at) (now (table .entry)) (now (table .exit)) ⌝ }
+    requires { ⌜ (node < mostNodes) × (a + run ≤ 2 ^ mostNodes) × (run ≤ length (now picks)) × ((t : ℕ) → t < run → getD (now picks) t 0 ≤ last) × (at + last < length (now source)) × (at + run ≤ length (now table)) ⌝ }
+    ensures { λ _. ⌜ Stored at run (picked a node (now (picks .entry)) last (now (source .entry)) at) (now (table .entry)) (now (table .exit)) ⌝ }
 {
     for t in 0..run {
-        let e = at + picks[t];
-        table[at + t] = chosen(bit(a + t, node) == 0, zeros[e], ones[e]);
+        let p = looked_up(bit(a + t, node), picks[t], last);
+        table[at + t] = source[at + p];
     }
 }
 
@@ -165,13 +160,13 @@ fn pick_rows(
     run: usize,
     list: &[usize],
     picks: &[usize],
-    zeros: &[u16],
-    ones: &[u16],
+    last: usize,
+    source: &[u16],
     i: usize,
     table: &mut [u16],
 )
-    requires { ⌜ (n ≤ mostNodes) × (run ≤ mostPlaces) × (a + run ≤ 2 ^ mostNodes) × (rising 0 n (now list) ≡ true) × (run ≤ length (now picks)) × ((t : ℕ) → t < run → getD (now picks) t 0 < mostPlaces) × (length (now zeros) ≡ tableSize) × (length (now ones) ≡ tableSize) × (i < n) × (length (now table) ≡ tableSize) ⌝ }
-    ensures { λ _. ⌜ (length (now (table .exit)) ≡ length (now (table .entry))) × ((m : ℕ) (marked : List Bool) → Pickable n m a run (now (list .entry)) marked (now (picks .entry)) (now (zeros .entry)) (now (ones .entry)) → i < m → member i (now (list .entry)) ≡ false → NodeRows n (_+_ a) run (now (list .entry)) i (length (now (list .entry))) (now (table .entry)) (now (table .exit))) ⌝ }
+    requires { ⌜ (n ≤ mostNodes) × (run ≤ mostPlaces) × (a + run ≤ 2 ^ mostNodes) × (rising 0 n (now list) ≡ true) × (run ≤ length (now picks)) × ((t : ℕ) → t < run → getD (now picks) t 0 ≤ last) × (last < mostPlaces) × (length (now source) ≡ tableSize) × (i < n) × (length (now table) ≡ tableSize) ⌝ }
+    ensures { λ _. ⌜ (length (now (table .exit)) ≡ length (now (table .entry))) × ((m : ℕ) (marked : List Bool) → Pickable n m a run (now (list .entry)) marked (now (picks .entry)) last (now (source .entry)) → i < m → member i (now (list .entry)) ≡ false → NodeRows n (_+_ a) run (now (list .entry)) i (length (now (list .entry))) (now (table .entry)) (now (table .exit))) ⌝ }
 {
     let k = list.len();
     for j in 0..k {
@@ -180,8 +175,8 @@ fn pick_rows(
             a,
             run,
             picks,
-            zeros,
-            ones,
+            last,
+            source,
             (i * k + j) * RUN,
             table,
         );
@@ -196,19 +191,19 @@ fn pick(
     run: usize,
     list: &[usize],
     marked: [bool; MOST_NODES],
-    zeros: &[u16],
-    ones: &[u16],
+    source: &[u16],
     table: &mut [u16],
 )
-    requires { ⌜ (n ≤ mostNodes) × (m ≤ n) × (run ≤ mostPlaces) × (a + run ≤ 2 ^ mostNodes) × (rising 0 n (now list) ≡ true) × Marks n (now list) marked × Represented n 0 marked (now list) m (now zeros) × Represented n 1 marked (now list) m (now ones) × (length (now table) ≡ tableSize) × Low (narrow .modulus) (now table) ⌝ }
+    requires { ⌜ (n ≤ mostNodes) × (m ≤ n) × (run ≤ mostPlaces) × (a + run ≤ 2 ^ n) × (rising 0 n (now list) ≡ true) × Marks n (now list) marked × Represented n marked (now list) m (now source) × (length (now table) ≡ tableSize) × Low (narrow .modulus) (now table) ⌝ }
     ensures { λ _. ⌜ Table n a run (now (list .entry)) m (now (table .exit)) ⌝ }
 {
     let picks = patterns_of(n, marked, a, run);
+    let last = count(n, marked) - 1;
     for i in 0..m {
         if marked[i] {
             continue;
         }
-        pick_rows(n, a, run, list, &picks, zeros, ones, i, table);
+        pick_rows(n, a, run, list, &picks, last, source, i, table);
     }
 }
 
@@ -221,15 +216,14 @@ pub fn run_multipliers(
     list: &[usize],
     marked: [bool; MOST_NODES],
     few: bool,
-    zeros: &[u16],
-    ones: &[u16],
+    source: &[u16],
     table: &mut [u16],
 )
-    requires { ⌜ (n ≤ mostNodes) × (m ≤ n) × (run ≤ mostPlaces) × (a + run ≤ 2 ^ mostNodes) × (rising 0 n (now list) ≡ true) × Marks n (now list) marked × Sources n m (now list) marked few (now zeros) (now ones) × (length (now table) ≡ tableSize) × Low (narrow .modulus) (now table) ⌝ }
+    requires { ⌜ (n ≤ mostNodes) × (m ≤ n) × (run ≤ mostPlaces) × (a + run ≤ 2 ^ n) × (rising 0 n (now list) ≡ true) × Marks n (now list) marked × (few ≡ true → Represented n marked (now list) m (now source)) × (length (now table) ≡ tableSize) × Low (narrow .modulus) (now table) ⌝ }
     ensures { λ _. ⌜ Table n a run (now (list .entry)) m (now (table .exit)) ⌝ }
 {
     if few {
-        pick(n, m, a, run, list, marked, zeros, ones, table);
+        pick(n, m, a, run, list, marked, source, table);
         return;
     }
     multipliers(n, m, a, run, list, marked, table);

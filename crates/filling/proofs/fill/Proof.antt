@@ -19,8 +19,9 @@ fill-from-few-requires c κs =
 
 fill-runs-requires : tie.Need-fill-runs-requires
 fill-runs-requires c κs =
-    let s = c .before .before .before .before .before .before .before .before in
-    (s .pre .0, s .pre .1, c .before .before .before .before .before .marks .ensures, record { zero = λ h. absurd (true≢false (sym h)); one = λ h. absurd (true≢false (sym h)) })
+    let m = c .before .before .before .before in
+    let s = m .before .before .before in
+    (s .pre .0, s .pre .1, m .marks .ensures, λ h. absurd (true≢false (sym h)))
 
 pub fill-spec : {M : Type 1} → statement M
 fill-spec =
@@ -29,7 +30,6 @@ fill-spec =
     marks-requires
     pays-requires
     fill-from-few-requires
-    (λ c. search needs)
     (λ c. search needs)
     (λ c. search needs)
     (λ c. search needs)

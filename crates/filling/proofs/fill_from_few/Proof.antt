@@ -1,37 +1,24 @@
 -- `filling::fill_from_few` meets its contract. Assumes nothing.
 use native.Mathlib.Omega.{arith}
+use borrow.Author.Needs.{needs}
 use Rattle.shape.proofs.Accepted.{shape-accepted}
 use Rattle.rows.proofs.Rows.{low-replicate}
 use Rattle.tables.specs.Tables.{tableSize}
-use borrow.Author.Needs.{needs}
 use Rattle.filling.proofs.fill_from_few.Statement.{statement}
 use Rattle.filling.proofs.fill_from_few.Tie as tie
 
 represent-requires : tie.Need-represent-requires
 represent-requires c κs =
     let s = c .before .before .before in
-    (shape-accepted _ (s .pre .0) .n-high, search needs, search needs, s .pre .3, s .pre .1 .up, s .pre .2, search needs, low-replicate _ tableSize 0 (omega arith))
-
-represent-requires-2 : tie.Need-represent-requires-2
-represent-requires-2 c κs =
-    let s = c .before .before .before .before .before .before in
-    (shape-accepted _ (s .pre .0) .n-high, search needs, search needs, s .pre .3, s .pre .1 .up, s .pre .2, search needs, low-replicate _ tableSize 0 (omega arith))
+    (shape-accepted _ (s .pre .0) .n-high, search needs, s .pre .3, s .pre .1 .up, s .pre .2, search needs, low-replicate _ tableSize 0 (omega arith))
 
 fill-runs-requires : tie.Need-fill-runs-requires
 fill-runs-requires c κs =
-    let s = c .before .before .before .before .before .before .before .before .before .before .before in
-    (s .pre .0, s .pre .1, s .pre .2, record { zero = λ h. c .before .before .before .before .before .before .before .represent .ensures; one = λ h. c .before .before .before .before .represent2 .ensures })
+    let r = c .before .before .before in
+    let s = r .before .before .before .before in
+    (s .pre .0, s .pre .1, s .pre .2, λ h. r .represent .ensures)
 
 pub fill-from-few-spec : {M : Type 1} → statement M
 fill-from-few-spec =
     tie.close
-    (tie.spec
-    (λ c. search needs)
-    represent-requires
-    (λ c. search needs)
-    represent-requires-2
-    (λ c. search needs)
-    (λ c. search needs)
-    fill-runs-requires
-    (λ c. search needs)
-    (λ c. search needs))
+    (tie.spec (λ c. search needs) represent-requires (λ c. search needs) fill-runs-requires (λ c. search needs) (λ c. search needs))

@@ -13,34 +13,33 @@ use Rattle.filling.proofs.fill_layers.Statement.{statement}
 use Rattle.filling.proofs.fill_layers.Tie as tie
 
 abbrev Inv-loop : tie.InvT-loop
-Inv-loop a run list zeros ones marked few table nodes₀ n layers two layer₀ nodes layer = (layer ≤ layers) × Filled n (layers * 2 ^ n) list (InLayers n a run layer) nodes₀ nodes
+Inv-loop a run list source marked few table nodes₀ n layers two layer₀ nodes layer = (layer ≤ layers) × Filled n (layers * 2 ^ n) list (InLayers n a run layer) nodes₀ nodes
 
 abbrev μ-loop : tie.MeasureT-loop
-μ-loop a run list zeros ones marked few table nodes₀ n layers two layer₀ nodes layer = layers - layer
+μ-loop a run list source marked few table nodes₀ n layers two layer₀ nodes layer = layers - layer
 
 two-to-requires : tie.Need-two-to-requires Inv-loop μ-loop
 two-to-requires c κs =
-    shape-accepted _ (c .before .before .before .before .before .pre .0) .n-high
+    shape-accepted _ (c .before .before .before .before .pre .0) .n-high
 
 run-multipliers-requires : tie.Need-run-multipliers-requires Inv-loop μ-loop
 run-multipliers-requires c κs =
-    let s = c .before .before .before .before .before .before .before in
-    let w = shape-accepted _ (s .pre .0) in
-    (w .n-high, search needs, s .pre .4, omega (arith, s .pre .5, w .places-high), s .pre .1 .up, s .pre .2, s .pre .3, s .pre .6, s .pre .7)
+    let s = c .before .before .before .before .before .before in
+    (shape-accepted _ (s .pre .0) .n-high, search needs, s .pre .4, s .pre .5, s .pre .1 .up, s .pre .2, s .pre .3, s .pre .6, s .pre .7)
 
 loop-holds : tie.Need-loop-holds Inv-loop μ-loop
 loop-holds c =
-    let s = c .before .before .before .before .before .before .before .before .before .before in
+    let s = c .before .before .before .before .before .before .before .before .before in
     (search needs, layers-none _ (s .args .s .layers) _ _ _ (s .pre .1 .up) (s .pre .5) (pow-pos (s .args .s .n)) _ _)
 
 -- a layer's places lie within a node, and a node has few
 layer-room : (c : tie.In-loop Inv-loop μ-loop) →
-    let s = c .before .before .before .before .before .before .before .before .before .before .before .before .args in
+    let s = c .before .before .before .before .before .before .before .before .before .before .before .args in
     let two = c .before .before .before .before .before .before .two-to .result in
     (c .before .loop .layer * two + s .a + s .run ≤ s .s .layers * two) × (s .s .layers * two ≤ mostLayers * 2 ^ mostNodes)
 unfolding size
 layer-room c =
-    let s = c .before .before .before .before .before .before .before .before .before .before .before .before in
+    let s = c .before .before .before .before .before .before .before .before .before .before .before in
     let e = c .before .before .before .before .before .before .two-to .ensures in (
       omega (arith, e, s .pre .5, mul-le-mul-right (c .before .before .before .before .before .before .two-to .result) (let z : c .before .loop .layer + 1 ≤ s .args .s .layers = omega arith in z)),
       rw e (shape-accepted (s .args .s) (s .pre .0) .size-high),
@@ -62,19 +61,19 @@ fill-run-requires : tie.Need-fill-run-requires Inv-loop μ-loop
 unfolding size
 fill-run-requires c κs =
     let l = c .before .before .before .loop in
-    let s = c .before .before .before .before .before .before .before .before .before .before .before .before .before .before in
+    let s = c .before .before .before .before .before .before .before .before .before .before .before .before .before in
     let e = c .before .before .before .before .before .before .before .before .two-to .ensures in
     let m = c .before .before .before .before .before .before .run-multipliers .ensures in
     (rw e (still-fillable _ _ _ _ _ _ (s .pre .1) (l .inv .1)), s .pre .2, s .pre .4, layer-room (c .before .before) .0, m .long, m .low)
 
 add-layer : tie.Need-add-layer Inv-loop μ-loop
 add-layer c =
-    let s = c .before .before .before .before .before .before .before .before .before .before .before .before .before .before .before .before .before in omega (arith, shape-accepted (s .args .s) (s .pre .0) .layers-high)
+    let s = c .before .before .before .before .before .before .before .before .before .before .before .before .before .before .before .before in omega (arith, shape-accepted (s .args .s) (s .pre .0) .layers-high)
 
 loop-again : tie.Need-loop-again Inv-loop μ-loop
 loop-again c =
     let l = c .before .before .before .before .before .before .loop in
-    let s = c .before .before .before .before .before .before .before .before .before .before .before .before .before .before .before .before .before in
+    let s = c .before .before .before .before .before .before .before .before .before .before .before .before .before .before .before .before in
     let e = c .before .before .before .before .before .before .before .before .before .before .before .two-to .ensures in (
       search needs,
       layers-more _ (s .args .s .layers) _ _ _ (s .pre .1 .up) (s .pre .5) (pow-pos (s .args .s .n)) _ (l .layer) _ _ _ (l .inv .1)
@@ -85,7 +84,7 @@ returns : tie.Need-returns Inv-loop μ-loop
 unfolding size
 returns c =
     let l = c .before .loop in
-    let s = c .before .before .before .before .before .before .before .before .before .before .before .before .args in
+    let s = c .before .before .before .before .before .before .before .before .before .before .before .args in
     let m = c .before .before .before .before .run-multipliers .ensures in
     let e : l .layer ≡ s .s .layers = omega arith in
     (m .long, m .low, subst (λ k. Filled (s .s .n) (s .s .layers * 2 ^ s .s .n) (s .list .now) (InLayers (s .s .n) (s .a) (s .run) k) (s .nodes .now) (l .nodes)) e (l .inv .1))

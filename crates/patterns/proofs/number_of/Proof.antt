@@ -10,24 +10,18 @@ use Rattle.patterns.proofs.number_of.Statement.{statement}
 use Rattle.patterns.proofs.number_of.Tie as tie
 
 abbrev Inv-loop : tie.InvT-loop
-Inv-loop n same pattern marked rest₀ out₀ i₀ rest out i = (i ≤ n) × Making n same marked pattern i rest out
+Inv-loop n pattern marked rest₀ out₀ i₀ rest out i = (i ≤ n) × Making n marked pattern i rest out
 
 abbrev μ-loop : tie.MeasureT-loop
-μ-loop n same pattern marked rest₀ out₀ i₀ rest out i = i
+μ-loop n pattern marked rest₀ out₀ i₀ rest out i = i
 
 loop-holds : tie.Need-loop-holds Inv-loop μ-loop
-loop-holds c = (search needs, making-none _ _ _ _)
+loop-holds c = (search needs, making-none _ _ _)
 
 mul-out : tie.Need-mul-out Inv-loop μ-loop
 mul-out c =
     let l = c .before .before .loop in
-    let z : l .out < 2 ^ mostNodes = making-low _ _ _ _ (l .i) _ _ (c .before .before .before .pre .0) (l .inv .1) in
-    omega (arith, z)
-
-add-out : tie.Need-add-out Inv-loop μ-loop
-add-out c =
-    let l = c .before .before .loop in
-    let z : l .out < 2 ^ mostNodes = making-low _ _ _ _ (l .i) _ _ (c .before .before .before .pre .0) (l .inv .1) in
+    let z : l .out < 2 ^ mostNodes = making-low _ _ _ (l .i) _ _ (c .before .before .before .pre) (l .inv .1) in
     omega (arith, z)
 
 loop-again : tie.Need-loop-again Inv-loop μ-loop
@@ -35,18 +29,18 @@ loop-again c =
     let l = c .before .before .loop in
     let s = c .before .before .before in
     let e : l .i ≡ l .i - 1 + 1 = omega arith in
-    (search needs, making-fixed _ _ _ _ (l .i - 1) _ _ (subst (λ k. Making (s .args .n) (s .args .same) (s .args .t2) (s .args .pattern) k (l .rest) (l .out)) e (l .inv .1)) (s .pre .1) (c .if1 .taken))
+    (search needs, making-fixed _ _ _ (l .i - 1) _ _ (subst (λ k. Making (s .args .n) (s .args .t2) (s .args .pattern) k (l .rest) (l .out)) e (l .inv .1)) (c .if1 .taken))
 
 mul-out-2 : tie.Need-mul-out-2 Inv-loop μ-loop
 mul-out-2 c =
     let l = c .before .before .loop in
-    let z : l .out < 2 ^ mostNodes = making-low _ _ _ _ (l .i) _ _ (c .before .before .before .pre .0) (l .inv .1) in
+    let z : l .out < 2 ^ mostNodes = making-low _ _ _ (l .i) _ _ (c .before .before .before .pre) (l .inv .1) in
     omega (arith, z)
 
-add-out-2 : tie.Need-add-out-2 Inv-loop μ-loop
-add-out-2 c =
+add-out : tie.Need-add-out Inv-loop μ-loop
+add-out c =
     let l = c .before .before .loop in
-    let z : l .out < 2 ^ mostNodes = making-low _ _ _ _ (l .i) _ _ (c .before .before .before .pre .0) (l .inv .1) in
+    let z : l .out < 2 ^ mostNodes = making-low _ _ _ (l .i) _ _ (c .before .before .before .pre) (l .inv .1) in
     omega (arith, z)
 
 loop-again-2 : tie.Need-loop-again-2 Inv-loop μ-loop
@@ -54,14 +48,14 @@ loop-again-2 c =
     let l = c .before .before .loop in
     let s = c .before .before .before in
     let e : l .i ≡ l .i - 1 + 1 = omega arith in
-    (search needs, making-free _ _ _ _ (l .i - 1) _ _ (subst (λ k. Making (s .args .n) (s .args .same) (s .args .t2) (s .args .pattern) k (l .rest) (l .out)) e (l .inv .1)) (c .if1 .left))
+    (search needs, making-free _ _ _ (l .i - 1) _ _ (subst (λ k. Making (s .args .n) (s .args .t2) (s .args .pattern) k (l .rest) (l .out)) e (l .inv .1)) (c .if1 .left))
 
 returns : tie.Need-returns Inv-loop μ-loop
 returns c =
     let l = c .before .loop in
     let s = c .before .before .args in
     let e : l .i ≡ 0 = omega arith in
-    making-end _ _ _ _ _ _ (subst (λ k. Making (s .n) (s .same) (s .t2) (s .pattern) k (l .rest) (l .out)) e (l .inv .1))
+    making-end _ _ _ _ _ (subst (λ k. Making (s .n) (s .t2) (s .pattern) k (l .rest) (l .out)) e (l .inv .1))
 
 pub number-of-spec : {M : Type 1} → statement M
 number-of-spec =
@@ -73,11 +67,10 @@ number-of-spec =
     (λ c. search needs)
     (λ c. search needs)
     mul-out
-    add-out
     (λ c. search needs)
     loop-again
     mul-out-2
-    add-out-2
+    add-out
     (λ c. search needs)
     loop-again-2
     returns)

@@ -12,10 +12,10 @@ use Rattle.patterns.proofs.numbers_of.Statement.{statement}
 use Rattle.patterns.proofs.numbers_of.Tie as tie
 
 abbrev Inv-loop : tie.InvT-loop
-Inv-loop n marked same count out₀ p₀ out p = (p ≤ count) × (length out ≡ mostPlaces) × ((k : ℕ) → k < p → Stands n same marked k (element out k))
+Inv-loop n marked count out₀ p₀ out p = (p ≤ count) × (length out ≡ mostPlaces) × ((k : ℕ) → k < p → Stands n marked k (element out k))
 
 abbrev μ-loop : tie.MeasureT-loop
-μ-loop n marked same count out₀ p₀ out p = count - p
+μ-loop n marked count out₀ p₀ out p = count - p
 
 loop-holds : tie.Need-loop-holds Inv-loop μ-loop
 loop-holds c = (search needs, search needs, λ k h. absurd (omega arith))
@@ -23,7 +23,7 @@ loop-holds c = (search needs, search needs, λ k h. absurd (omega arith))
 loop-again : tie.Need-loop-again Inv-loop μ-loop
 loop-again c =
     let l = c .before .before .loop in
-    (search needs, simp length-set (l .inv .1), stored-more (λ k x. Stands (c .before .before .before .args .n) (c .before .before .before .args .same) (c .before .before .before .args .marked) k x) (l .out) (l .p) _ 0 (omega arith) (l .inv .2) (c .number-of .ensures))
+    (search needs, simp length-set (l .inv .1), stored-more (λ k x. Stands (c .before .before .before .args .n) (c .before .before .before .args .marked) k x) (l .out) (l .p) _ 0 (omega arith) (l .inv .2) (c .number-of .ensures))
 
 returns : tie.Need-returns Inv-loop μ-loop
 returns c = let l = c .before .loop in (l .inv .1, λ p h. l .inv .2 p (omega arith))

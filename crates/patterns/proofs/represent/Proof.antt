@@ -9,7 +9,7 @@ returns c =
     let s = c .before .before .before .before .before .before .before .before .before in
     let w = c .before .before .before .before .before .numbers-of in
     let e = c .before .before .before .before .before .before .count .ensures in
-    record { few = s .pre .3; each = element (w .result); stands = λ p h. w .ensures .1 p (rw e h); held = rw e at (c .before .before .multipliers-at .ensures) }
+    record { few = s .pre .2; each = element (w .result); stands = λ p h. w .ensures .1 p (rw e h); held = rw e at (c .before .before .multipliers-at .ensures) }
 
 pub represent-spec : {M : Type 1} → statement M
 represent-spec =

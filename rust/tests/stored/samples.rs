@@ -1,0 +1,86 @@
+//! The samples of document 01: each call's answer and what it left in its buffers, a line for each.
+
+use super::digest::{line, number};
+use archive::{unpack, Refusal, Shape};
+
+/// "n=3, k=1, L=1".
+const TINY: Shape = Shape { nodes: 3, data: 1, layers: 1 };
+
+/// An answer, and behind it a buffer that the call had.
+fn shown<T: Copy + Into<u64>>(answer: usize, buffer: &[T]) -> String {
+    let mut numbers = vec![answer as u64];
+    numbers.extend(buffer.iter().map(|&element| element.into()));
+    line(&numbers)
+}
+
+/// What a call found, or the number of the cause.
+fn found(answer: Result<usize, Refusal>) -> usize {
+    answer.unwrap_or_else(Refusal::number)
+}
+
+/// The archive of some bytes, and what opens from its node 2.
+fn written(bytes: &[u8]) -> String {
+    let mut nodes = [9; 24];
+    let write = number(TINY.write(bytes, &mut nodes));
+    let mut opened = vec![9; bytes.len()];
+    let open = number(TINY.open(&[2], &nodes[16..], bytes.len(), &mut opened));
+    shown(write, &nodes) + &shown(open, &opened)
+}
+
+/// The archive of the bytes 3 6.
+fn first_archive() -> [u16; 24] {
+    let mut nodes = [0; 24];
+    TINY.write(&[3, 6], &mut nodes).unwrap();
+    nodes
+}
+
+/// The first archive with node 0 dead, repaired by nodes 1 and 2: the wire, and the nodes.
+fn repaired() -> String {
+    let mut nodes = first_archive();
+    nodes[..8].fill(65535);
+    let mut wire = [9; 8];
+    let answer = number(TINY.repair(&[0], &[1, 2], &mut nodes, &mut wire));
+    shown(answer, &wire) + &line(&nodes.map(u64::from))
+}
+
+/// The first archive's card for node 1.
+fn packed() -> String {
+    let mut card = [9; 31];
+    shown(found(TINY.pack(1, 2, &first_archive()[8..16], &mut card)), &card)
+}
+
+/// What a card of node 1 is unpacked as, whose first symbol has these two bytes and whose others are 0.
+fn unpacked(first: u8, second: u8) -> String {
+    let card = [3, 1, 1, 1, 2, first, second, 0, 0, 0, 0, 0, 0, 0];
+    let mut symbols = [9; 8];
+    shown(found(unpack(&card, &mut symbols).map(|header| header.length)), &symbols)
+}
+
+/// Node 1 holds 87 and zeros, and a transcript of one byte is opened.
+fn no_transcript() -> String {
+    let mut opened = [9u8];
+    shown(number(TINY.open(&[1], &[87, 0, 0, 0, 0, 0, 0, 0], 1, &mut opened)), &opened)
+}
+
+/// The answer with nodes 0 and 1 dead, in buffers that fit n = 4 and L = 3.
+fn two_lost(shape: Shape, helpers: &[usize]) -> u64 {
+    number(shape.repair(&[0, 1], helpers, &mut [0; 192], &mut [0; 96])) as u64
+}
+
+pub fn lines() -> String {
+    let four = |layers| Shape { nodes: 4, data: 1, layers };
+    let losses = [two_lost(TINY, &[2]), two_lost(four(1), &[2, 3]), two_lost(four(3), &[2, 3])];
+    [
+        written(&[3, 6]),
+        written(&[0, 0, 0, 6]),
+        written(&[]),
+        repaired(),
+        packed(),
+        unpacked(129, 2),
+        unpacked(128, 0),
+        unpacked(128, 2),
+        no_transcript(),
+        line(&losses),
+    ]
+    .concat()
+}
