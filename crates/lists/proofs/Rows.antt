@@ -24,11 +24,6 @@ same-place i j p q size h k e = sym (digits-mod i h) ∙ ap (λ x. x % size) e �
 pub placed-none : (size place : ℕ) (column before : List ℕ) → Placed 0 size place column before before
 placed-none size place column before = record { long = refl; there = λ i h. absurd (omega arith); others = λ i p h d. refl }
 
--- of the column only the first n elements count
-pub placed-same : (n size place : ℕ) (column other before after : List ℕ) → ((i : ℕ) → i < n → getD column i 0 ≡ getD other i 0)
-    → Placed n size place column before after → Placed n size place other before after
-placed-same n size place column other before after same w = record { long = w .long; there = λ i h l. w .there i h l ∙ same i h; others = w .others }
-
 module _ (i size place : ℕ) (column before now : List ℕ) (within : place < size) (w : Placed i size place column before now) where
   -- row i is beyond the end
   pub placed-skip : length before ≤ i * size + place → Placed (i + 1) size place column before now

@@ -14,7 +14,7 @@ use borrow.Author.Tests.{eq-eqb, ne-eqb, eqb-false}
 use Rattle.lists.specs.Lists.{member, position, others, rising}
 use Rattle.lists.specs.Sums.{sum, sumOver}
 use Rattle.lists.proofs.Members.{member-of, at-position, rises-position}
-use Rattle.lists.proofs.Sums.{sum-suc, sum-ext, sum-const, sum-tests, over-sum}
+use Rattle.lists.proofs.Sums.{sum-suc, sum-only, sum-add, sum-ext, sum-const, sum-tests, over-sum}
 use Rattle.lists.proofs.Others.{others-rise, others-length, others-at, others-member, sum-split}
 use Rattle.field.specs.Residues.{Prime, minus, inverse}
 use Rattle.field.proofs.Ring.{Ring, Field, ring, mul-zero, zero-mul, one-mul, mul-ne-zero, div-intro}
@@ -24,25 +24,25 @@ use Rattle.field.proofs.Fields.{pos, R, field-inv}
 use Rattle.field.proofs.Bridge.{r as residue, K as field, res-inj, minus-is}
 use Rattle.column.specs.Column.{parity, completed, Points, Completion}
 use Rattle.column.proofs.Column.{completed-is}
-use Rattle.multipliers.specs.Multipliers.{left, differences, multiplier, unit}
-use Rattle.multipliers.proofs.Totals.{total, total-ext, total-less, total-zero, total-is, sum-only, sum-add}
+use Rattle.multipliers.specs.Multipliers.{leftOut, differences, multiplier, unit}
+use Rattle.multipliers.proofs.Totals.{total, total-ext, total-less, total-zero, total-is}
 
 -- ---- the entries left out
 
-pub left-listed : (list : List ℕ) (i e : ℕ) → member e list ≡ true → left list i e ≡ true
-unfolding left
+pub left-listed : (list : List ℕ) (i e : ℕ) → member e list ≡ true → leftOut list i e ≡ true
+unfolding leftOut
 left-listed list i e m = ap (λ b. b || eqb e i) m
 
-pub left-self : (list : List ℕ) (i : ℕ) → member i list ≡ false → left list i i ≡ true
-unfolding left
+pub left-self : (list : List ℕ) (i : ℕ) → member i list ≡ false → leftOut list i i ≡ true
+unfolding leftOut
 left-self list i m = ap₂ _||_ m (eq-eqb i i refl)
 
-pub left-not : (list : List ℕ) (i e : ℕ) → member e list ≡ false → e ≢ i → left list i e ≡ false
-unfolding left
+pub left-not : (list : List ℕ) (i e : ℕ) → member e list ≡ false → e ≢ i → leftOut list i e ≡ false
+unfolding leftOut
 left-not list i e m d = ap₂ _||_ m (ne-eqb e i d)
 
-pub left-none : (list : List ℕ) (i e : ℕ) → left list i e ≡ false → (member e list ≡ false) × (e ≢ i)
-unfolding left
+pub left-none : (list : List ℕ) (i e : ℕ) → leftOut list i e ≡ false → (member e list ≡ false) × (e ≢ i)
+unfolding leftOut
 left-none list i e h = go (member e list) refl
   where
     go : (b : Bool) → member e list ≡ b → (member e list ≡ false) × (e ≢ i)
@@ -56,19 +56,19 @@ module _ (q : ℕ) (ps list : List ℕ) (i x : ℕ) where
   unfolding differences
   differences-none = refl
 
-  pub differences-left : (m : ℕ) → left list i m ≡ true → differences q ps list i x (suc m) ≡ differences q ps list i x m
+  pub differences-left : (m : ℕ) → leftOut list i m ≡ true → differences q ps list i x (suc m) ≡ differences q ps list i x m
   unfolding differences
   differences-left m e = rw e
 
-  pub differences-next : (m : ℕ) → left list i m ≡ false → differences q ps list i x (suc m) ≡ differences q ps list i x m * minus q x (getD ps m 0) % q
+  pub differences-next : (m : ℕ) → leftOut list i m ≡ false → differences q ps list i x (suc m) ≡ differences q ps list i x m * minus q x (getD ps m 0) % q
   unfolding differences
   differences-next m e = rw e
 
   pub differences-small : 1 < q → (m : ℕ) → differences q ps list i x m < q
   differences-small h zero = unfold differences in h
-  differences-small h (suc m) = go (left list i m) refl (differences-small h m)
+  differences-small h (suc m) = go (leftOut list i m) refl (differences-small h m)
     where
-      go : (b : Bool) → left list i m ≡ b → differences q ps list i x m < q → differences q ps list i x (suc m) < q
+      go : (b : Bool) → leftOut list i m ≡ b → differences q ps list i x m < q → differences q ps list i x (suc m) < q
       go true e ih = rw (differences-left m e) ih
       go false e ih = rw (differences-next m e) (mod-lt _ (omega arith))
 
@@ -76,9 +76,9 @@ module _ (q : ℕ) (ps list : List ℕ) (i x : ℕ) where
 differences-ext : (q : ℕ) (ps ps′ list : List ℕ) (i x m : ℕ) → ((e : ℕ) → e < m → member e list ≡ false → getD ps e 0 ≡ getD ps′ e 0)
     → differences q ps list i x m ≡ differences q ps′ list i x m
 differences-ext q ps ps′ list i x zero h = differences-none q ps list i x ∙ sym (differences-none q ps′ list i x)
-differences-ext q ps ps′ list i x (suc m) h = go (left list i m) refl (differences-ext q ps ps′ list i x m (λ e l. h e (omega arith)))
+differences-ext q ps ps′ list i x (suc m) h = go (leftOut list i m) refl (differences-ext q ps ps′ list i x m (λ e l. h e (omega arith)))
   where
-    go : (b : Bool) → left list i m ≡ b → differences q ps list i x m ≡ differences q ps′ list i x m → differences q ps list i x (suc m) ≡ differences q ps′ list i x (suc m)
+    go : (b : Bool) → leftOut list i m ≡ b → differences q ps list i x m ≡ differences q ps′ list i x m → differences q ps list i x (suc m) ≡ differences q ps′ list i x (suc m)
     go true e ih = differences-left q ps list i x m e ∙ ih ∙ sym (differences-left q ps′ list i x m e)
     go false e ih =
         differences-next q ps list i x m e ∙ ap₂ (λ u v. u * minus q x v % q) ih (h m (omega arith) (left-none list i m e .0))
@@ -99,21 +99,21 @@ abbrev one : Bool → ℕ
 one b = cond b 0 1
 
 abbrev count : List ℕ → ℕ → ℕ → ℕ
-count list i m = sum m (λ e. one (left list i e))
+count list i m = sum m (λ e. one (leftOut list i e))
 
-count-left : (list : List ℕ) (i m : ℕ) → left list i m ≡ true → count list i (suc m) ≡ count list i m
+count-left : (list : List ℕ) (i m : ℕ) → leftOut list i m ≡ true → count list i (suc m) ≡ count list i m
 count-left list i m e = sum-suc m _ ∙ ap (λ b. count list i m + one b) e ∙ omega arith
 
-count-next : (list : List ℕ) (i m : ℕ) → left list i m ≡ false → count list i (suc m) ≡ count list i m + 1
+count-next : (list : List ℕ) (i m : ℕ) → leftOut list i m ≡ false → count list i (suc m) ≡ count list i m + 1
 count-next list i m e = sum-suc m _ ∙ ap (λ b. count list i m + one b) e
 
 count-all : (n : ℕ) (list : List ℕ) (up : rising 0 n list ≡ true) (i : ℕ) → i < n → member i list ≡ false → count list i n + 1 ≡ n - length list
 count-all n list up i h u =
-    ap (λ k. count list i n + k) (sym (sum-tests n i h)) ∙ sym (sum-add n (λ e. one (left list i e)) (λ e. cond (eqb i e) 1 0))
+    ap (λ k. count list i n + k) (sym (sum-tests n i h)) ∙ sym (sum-add n (λ e. one (leftOut list i e)) (λ e. cond (eqb i e) 1 0))
     ∙ sum-ext n _ _ (λ e l. each e (member e list) refl (ℕ-discrete i e)) ∙ whole
     ∙ omega (arith, others-length n list up)
   where
-    each : (e : ℕ) (b : Bool) → member e list ≡ b → Dec (i ≡ e) → one (left list i e) + cond (eqb i e) 1 0 ≡ one (member e list)
+    each : (e : ℕ) (b : Bool) → member e list ≡ b → Dec (i ≡ e) → one (leftOut list i e) + cond (eqb i e) 1 0 ≡ one (member e list)
     each e true m (yes d) = absurd (true≢false (sym m ∙ ap (λ k. member k list) (sym d) ∙ u))
     each e true m (no d) = rw (left-listed list i e m, ne-eqb i e d, m)
     each e false m (yes d) = rw (m, sym d, left-self list i u, eq-eqb i i refl)
@@ -183,20 +183,20 @@ module _ (q : ℕ) (prime : Prime q) (ps : List ℕ) (points : Points q ps) (lis
   abbrev D : ℕ → ℕ → ℕ
   D x m = differences q ps list i x m
 
-  pub next-is : (x m : ℕ) → left list i m ≡ false → r (D x (suc m)) ≡ r (D x m) ⊗ (r x ⊖ r (P m))
+  pub next-is : (x m : ℕ) → leftOut list i m ≡ false → r (D x (suc m)) ≡ r (D x m) ⊗ (r x ⊖ r (P m))
   next-is x m e = ap r (differences-next q ps list i x m e) ∙ res-mod q o _ ∙ res-mul q o _ _ ∙ ap (λ u. r (D x m) ⊗ u) (minus-is q prime x (P m))
 
   -- ---- where a product vanishes, and where not
 
-  vanishes : (e m : ℕ) → e < m → left list i e ≡ false → r (D (P e) m) ≡ 𝟘
+  vanishes : (e m : ℕ) → e < m → leftOut list i e ≡ false → r (D (P e) m) ≡ 𝟘
   vanishes e zero h l = absurd (omega arith)
-  vanishes e (suc m) h l = go (left list i m) refl (ℕ-discrete e m) (λ g. vanishes e m g l)
+  vanishes e (suc m) h l = go (leftOut list i m) refl (ℕ-discrete e m) (λ g. vanishes e m g l)
     where
       self : (x : Residue q) → x ⊖ x ≡ 𝟘
       self x = simp ring
 
-      go : (b : Bool) → left list i m ≡ b → Dec (e ≡ m) → (e < m → r (D (P e) m) ≡ 𝟘) → r (D (P e) (suc m)) ≡ 𝟘
-      go true g (yes d) ih = absurd (true≢false (sym g ∙ sym (ap (left list i) d) ∙ l))
+      go : (b : Bool) → leftOut list i m ≡ b → Dec (e ≡ m) → (e < m → r (D (P e) m) ≡ 𝟘) → r (D (P e) (suc m)) ≡ 𝟘
+      go true g (yes d) ih = absurd (true≢false (sym g ∙ sym (ap (leftOut list i) d) ∙ l))
       go true g (no d) ih = ap r (differences-left q ps list i (P e) m g) ∙ ih (omega arith)
       go false g (yes d) ih =
           next-is (P e) m g ∙ ap (λ u. r (D (P e) m) ⊗ (r (P e) ⊖ r (P u))) (sym d) ∙ ap (λ u. r (D (P e) m) ⊗ u) (self _) ∙ mul-zero (R q prime) _
@@ -204,7 +204,7 @@ module _ (q : ℕ) (prime : Prime q) (ps : List ℕ) (points : Points q ps) (lis
 
   pub lasts : (m : ℕ) → m ≤ length ps → r (D (P i) m) ≢ 𝟘
   lasts zero h = λ e. K .one-ne-zero (one-is q o ∙ sym (ap r (differences-none q ps list i (P i))) ∙ e)
-  lasts (suc m) h = go (left list i m) refl (lasts m (omega arith))
+  lasts (suc m) h = go (leftOut list i m) refl (lasts m (omega arith))
     where
       apart : (x y : Residue q) → x ⊖ y ≡ 𝟘 → x ≡ y
       apart x y e = whole ∙ ap (λ u. u ⊕ y) e ∙ end
@@ -215,7 +215,7 @@ module _ (q : ℕ) (prime : Prime q) (ps : List ℕ) (points : Points q ps) (lis
           end : 𝟘 ⊕ y ≡ y
           end = simp ring
 
-      go : (b : Bool) → left list i m ≡ b → r (D (P i) m) ≢ 𝟘 → r (D (P i) (suc m)) ≢ 𝟘
+      go : (b : Bool) → leftOut list i m ≡ b → r (D (P i) m) ≢ 𝟘 → r (D (P i) (suc m)) ≢ 𝟘
       go true g ih e = ih (sym (ap r (differences-left q ps list i (P i) m g)) ∙ e)
       go false g ih e =
           mul-ne-zero K _ _ ih
@@ -249,9 +249,9 @@ module _ (q : ℕ) (prime : Prime q) (ps : List ℕ) (points : Points q ps) (lis
         total-ext (R q prime) n _ _
         (λ e _. ap (λ u. pow (R q prime) (r (P e)) s ⊗ u ⊗ f e) (ap r (differences-none q ps list i (P e)) ∙ sym (one-is q o)) ∙ plain (R q prime) _ (f e))
         ∙ met s (omega arith)
-    combines (suc m) s h l = go (left list i m) refl (λ s g. combines m s (omega arith) g)
+    combines (suc m) s h l = go (leftOut list i m) refl (λ s g. combines m s (omega arith) g)
       where
-        go : (b : Bool) → left list i m ≡ b → ((s : ℕ) → s + count list i m < length ps - length list → weighed s m ≡ 𝟘) → weighed s (suc m) ≡ 𝟘
+        go : (b : Bool) → leftOut list i m ≡ b → ((s : ℕ) → s + count list i m < length ps - length list → weighed s m ≡ 𝟘) → weighed s (suc m) ≡ 𝟘
         go true g ih =
             total-ext (R q prime) n _ _ (λ e _. ap (λ u. pow (R q prime) (r (P e)) s ⊗ r u ⊗ f e) (differences-left q ps list i (P e) m g))
             ∙ ih s (omega (arith, count-left list i m g))

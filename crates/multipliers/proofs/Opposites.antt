@@ -13,7 +13,7 @@ use Rattle.field.proofs.Residues.{Residue, res-add, res-zero}
 use Rattle.field.proofs.Fields.{pos, R}
 use Rattle.field.proofs.Bridge.{r as residue, K as field, res-inj}
 use Rattle.column.specs.Column.{Points}
-use Rattle.multipliers.specs.Multipliers.{left, differences, multiplier}
+use Rattle.multipliers.specs.Multipliers.{leftOut, differences, multiplier}
 use Rattle.multipliers.proofs.Multipliers.{left-none, differences-none, differences-left, next-is, lasts, multiplier-is, multiplier-small}
 
 module _ {F : Type 0} (R : Ring F) where
@@ -82,7 +82,7 @@ module _ (q : ℕ) (prime : Prime q) (ps ps′ : List ℕ) (points : Points q ps
   opposite x y e = negative (R q prime) (r x) (r y) (sym (res-add q (pos q prime) x y) ∙ res-zero q (pos q prime) (x + y) .0 e)
 
   -- one factor more of both kinds of products
-  turns : (x x′ m : ℕ) → r x′ ≡ 𝟘 ⊖ r x → m < length ps → left list i m ≡ false → r (D′ x′ (suc m)) ≡ r (D′ x′ m) ⊗ (𝟘 ⊖ (r x ⊖ r (getD ps m 0)))
+  turns : (x x′ m : ℕ) → r x′ ≡ 𝟘 ⊖ r x → m < length ps → leftOut list i m ≡ false → r (D′ x′ (suc m)) ≡ r (D′ x′ m) ⊗ (𝟘 ⊖ (r x ⊖ r (getD ps m 0)))
   turns x x′ m e h l =
       next-is q prime ps′ points′ list up′ i within′ unlisted x′ m l
       ∙ ap (λ u. r (D′ x′ m) ⊗ u)
@@ -92,9 +92,9 @@ module _ (q : ℕ) (prime : Prime q) (ps ps′ : List ℕ) (points : Points q ps
   cross x y x′ y′ ex ey zero h =
       ap₂ (λ u v. r u ⊗ r v) (differences-none q ps list i x ∙ sym (differences-none q ps′ list i x′))
       (differences-none q ps′ list i y′ ∙ sym (differences-none q ps list i y))
-  cross x y x′ y′ ex ey (suc m) h = go (left list i m) refl (cross x y x′ y′ ex ey m (omega arith))
+  cross x y x′ y′ ex ey (suc m) h = go (leftOut list i m) refl (cross x y x′ y′ ex ey m (omega arith))
     where
-      go : (b : Bool) → left list i m ≡ b → r (D x m) ⊗ r (D′ y′ m) ≡ r (D′ x′ m) ⊗ r (D y m) → r (D x (suc m)) ⊗ r (D′ y′ (suc m)) ≡ r (D′ x′ (suc m)) ⊗ r (D y (suc m))
+      go : (b : Bool) → leftOut list i m ≡ b → r (D x m) ⊗ r (D′ y′ m) ≡ r (D′ x′ m) ⊗ r (D y m) → r (D x (suc m)) ⊗ r (D′ y′ (suc m)) ≡ r (D′ x′ (suc m)) ⊗ r (D y (suc m))
       go true l ih =
           ap₂ (λ u v. r u ⊗ r v) (differences-left q ps list i x m l) (differences-left q ps′ list i y′ m l) ∙ ih
           ∙ sym (ap₂ (λ u v. r u ⊗ r v) (differences-left q ps′ list i x′ m l) (differences-left q ps list i y m l))

@@ -1,11 +1,8 @@
--- Sums in a ring, and sums of numbers with one term.
+-- Sums in a ring.
 use mathlib.Core.Path.{_≡_, refl, sym, ap, ap₂, _∙_}
-use mathlib.Core.Logic.{_≢_}
-use Prim.Native.Nat.{ℕ, zero, suc, _+_, _<_}
-use native.Mathlib.Decide.{ℕ-discrete}
+use Prim.Native.Nat.{ℕ, zero, suc, _<_}
 use native.Mathlib.Omega.{arith}
 use Rattle.lists.specs.Sums.{sum}
-use Rattle.lists.proofs.Sums.{sum-suc, sum-ext, sum-const}
 use Rattle.field.specs.Residues.{Prime}
 use Rattle.field.proofs.Ring.{Ring, ring}
 use Rattle.field.proofs.Residues.{res-add, zero-is}
@@ -62,18 +59,3 @@ unfolding sum
 total-is q prime zero f = sym (total-none (R q prime) _ ∙ zero-is q (pos q prime))
 total-is q prime (suc n) f =
     res-add q (pos q prime) _ _ ∙ ap (λ u. R q prime ._⊕_ u (residue q prime (f n))) (total-is q prime n f) ∙ sym (total-suc (R q prime) n _)
-
--- a sum of which one term alone counts
-pub sum-only : (n k : ℕ) (f : ℕ → ℕ) → k < n → ((j : ℕ) → j < n → j ≢ k → f j ≡ 0) → sum n f ≡ f k
-sum-only zero k f h z = absurd (omega arith)
-sum-only (suc n) k f h z = go (ℕ-discrete k n) (λ l. sum-only n k f l (λ j m. z j (omega arith)))
-  where
-    go : Dec (k ≡ n) → (k < n → sum n f ≡ f k) → sum (suc n) f ≡ f k
-    go (yes e) ih =
-        omega (arith, sum-suc n f, ap f e, sum-ext n f (λ j. 0) (λ j l. z j (omega arith) (λ d. omega arith)), sum-const n 0)
-    go (no d) ih = let l : k < n = omega arith in omega (arith, sum-suc n f, ih l, z n (omega arith) (λ e. d (sym e)))
-
-pub sum-add : (n : ℕ) (f g : ℕ → ℕ) → sum n (λ i. f i + g i) ≡ sum n f + sum n g
-unfolding sum
-sum-add zero f g = refl
-sum-add (suc n) f g = omega (arith, sum-add n f g)

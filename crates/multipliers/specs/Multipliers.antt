@@ -8,15 +8,15 @@ use Rattle.lists.specs.Lists.{member}
 use Rattle.field.specs.Residues.{minus, inverse}
 
 -- entry e is listed, or is i
-unfoldable pub left : List ℕ → ℕ → ℕ → Bool
-left list i e = member e list || eqb e i
+unfoldable pub leftOut : List ℕ → ℕ → ℕ → Bool
+leftOut list i e = member e list || eqb e i
 
 -- the product of x less the point over the first m entries, the listed ones and i excepted
 unfoldable pub differences : ℕ → List ℕ → List ℕ → ℕ → ℕ → ℕ → ℕ
 differences q points list i x zero = 1
 differences q points list i x (suc m) =
     let before = differences q points list i x m in
-    cond (left list i m) before (before * minus q x (getD points m 0) % q)
+    cond (leftOut list i m) before (before * minus q x (getD points m 0) % q)
 
 -- what the value of listed entry j is multiplied by in the missing entry i: a quotient of two such products
 unfoldable pub multiplier : ℕ → List ℕ → List ℕ → ℕ → ℕ → ℕ

@@ -9,18 +9,10 @@ use native.Mathlib.Omega.{arith}
 use lib.ListN.{getD}
 use lib.Pow.{pow-mono, pow-pos}
 use Rattle.lists.specs.Digits.{bit}
-use Rattle.lists.proofs.Flips.{bit-lt}
+use Rattle.lists.proofs.Flips.{bit-lt, bit-zero, bit-suc}
 use Rattle.shape.specs.Shape.{mostNodes}
 use Rattle.rows.specs.Rows.{Stored}
 use Rattle.patterns.specs.Patterns.{pattern, patterns, lengthened, Making, Stands}
-
-bit-zero : (a : ℕ) → bit 0 a ≡ a % 2
-unfolding bit
-bit-zero a = rw div-one
-
-bit-suc : (i a : ℕ) → bit (suc i) a ≡ bit i (a / 2)
-unfolding bit
-bit-suc i a = ap (λ x. x % 2) (ap (λ x. a / x) (pow-succ' 2 i) ∙ sym (div-div-eq-div-mul a 2 (2 ^ i)))
 
 twice : (m : ℕ) → 2 ^ (m + 1) ≡ 2 * 2 ^ m
 twice m = rw (add-one m) (pow-succ' 2 m)
@@ -66,9 +58,6 @@ module _ (marked : List Bool) where
       go : (b : Bool) → getD marked m false ≡ b → patterns marked m ≤ 2 ^ m → patterns marked (m + 1) ≤ 2 ^ (m + 1)
       go true e ih = omega (arith, patterns-skip m e, ih, twice m)
       go false e ih = omega (arith, patterns-more m e, ih, twice m)
-
-  pub pattern-fits : (a m bound : ℕ) → patterns marked m ≤ bound → pattern marked a m < bound
-  pattern-fits a m bound h = omega (arith, pattern-lt a m)
 
   pub pattern-low : (a m : ℕ) → m ≤ mostNodes → pattern marked a m < 2 ^ mostNodes
   pattern-low a m h = omega (arith, pattern-lt a m, patterns-le m, pow-mono h)

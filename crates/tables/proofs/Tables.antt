@@ -20,7 +20,7 @@ use Rattle.code.proofs.NodePoints.{good-fewer, points-length, points-at, points
 use Rattle.code.proofs.Narrow.{narrow-good}
 use Rattle.rows.specs.Rows.{mostPlaces, Low, Stored, scaled, quotient}
 use Rattle.rows.proofs.Rows.{stored-low, low-replicate}
-use Rattle.multipliers.specs.Multipliers.{left, differences, multiplier}
+use Rattle.multipliers.specs.Multipliers.{leftOut, differences, multiplier}
 use Rattle.multipliers.proofs.Multipliers.{differences-none, differences-left, differences-next, divisor-nonzero, inverse-only}
 use Rattle.tables.specs.Tables.{pointsSize, tableSize, pointOf, PointRows, Marks, DifferenceRow, MultiplierRow, NodeRows, TableOf}
 
@@ -74,7 +74,7 @@ module _ (n run : ℕ) (few : run ≤ mostPlaces) (rows : List ℕ) (marked : Li
       low = so-far .low;
       each = λ f list w v t h.
           so-far .each f list w v t h
-          ∙ sym (rw (add-one m) (differences-left q (points narrow n (f t)) list i (point narrow (f t) x) m (unfold left in ap (λ b. b || eqb m i) (sym (v .each m within)) ∙ e)));
+          ∙ sym (rw (add-one m) (differences-left q (points narrow n (f t)) list i (point narrow (f t) x) m (unfold leftOut in ap (λ b. b || eqb m i) (sym (v .each m within)) ∙ e)));
     }
 
     -- or its difference is a factor more
@@ -88,7 +88,7 @@ module _ (n run : ℕ) (few : run ≤ mostPlaces) (rows : List ℕ) (marked : Li
           ap (λ k. getD after k 0) (let z : t ≡ 0 + t = omega arith in z) ∙ put .there t h
           ∙ ap₂ (λ d z. d * z % q) (so-far .each f list w v t h)
           (ap₂ (minus q) (w .each x t inside h) (w .each m t within h ∙ sym (points-at narrow n (f t) m within)))
-          ∙ sym (rw (add-one m) (differences-next q (points narrow n (f t)) list i (point narrow (f t) x) m (unfold left in ap (λ b. b || eqb m i) (sym (v .each m within)) ∙ e)));
+          ∙ sym (rw (add-one m) (differences-next q (points narrow n (f t)) list i (point narrow (f t) x) m (unfold leftOut in ap (λ b. b || eqb m i) (sym (v .each m within)) ∙ e)));
     }
 
 -- ---- multipliers
