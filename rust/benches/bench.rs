@@ -72,7 +72,8 @@ impl Table {
     fn print(&self) {
         println!("{:<36}{:>12}{:>12}{:>14}{:>9}", "(n, k, L) call", "ns/symbol", "MB/s", "naive ns/sym", "ratio");
         self.lines.iter().for_each(Line::print);
-        let slower: Vec<String> = self.lines.iter().filter(|line| line.ratio() < 1.0).map(|line| line.name.clone()).collect();
+        let slower: Vec<String> =
+            self.lines.iter().filter(|line| line.ratio() < 1.0).map(|line| line.name.clone()).collect();
         println!("Ratio below 1: {}.", if slower.is_empty() { "none".to_string() } else { slower.join(", ") });
     }
 }
