@@ -20,6 +20,7 @@ ghost use Rattle.rows.specs.Rows.{mostPlaces, Low, Stored};
 ghost use Rattle.tables.specs.Tables.{tableSize, Marks, NodeRows, Table};
 ghost use Rattle.patterns.specs.Patterns.{pattern, patterns, lengthened, lookedUp, Stands, Represented, picked, Pickable};
 
+// "Bit i of a is its binary digit worth 2^i."
 fn bit(a: usize, i: usize) -> usize
     requires { ⌜ i < mostNodes ⌝ }
     ensures { λ r. ⌜ r ≡ bit i a ⌝ }
