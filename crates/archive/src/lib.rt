@@ -2,7 +2,7 @@
 use card::Header;
 use card::Packed;
 use card::Unpacked;
-use code::Checked;
+use checking::Checked;
 use plan::Planned;
 use returned::answer_number;
 use returned::equation_number;
@@ -12,7 +12,8 @@ use shape::Shape;
 use shape::number_of;
 ghost use lib.ListN.{length};
 ghost use Rattle.shape.specs.Refusals.{answerNumber};
-ghost use Rattle.code.specs.Promises.{Writes, Checks, Restores, Opens};
+ghost use Rattle.code.specs.Promises.{Writes, Restores, Opens};
+ghost use Rattle.checking.specs.Promises.{Checks};
 ghost use Rattle.repair.specs.Promises.{HelperMessage, FirstStep, SecondStep, Repaired};
 ghost use Rattle.card.specs.Promises.{Packs};
 ghost use Rattle.plan.specs.Promises.{Plans};
@@ -33,7 +34,7 @@ pub extern "C" fn archive_write(
     ensures { λ r. ⌜ Returned answerNumber (Writes (shapeOf n k layers) (now (transcript .entry)) (now (nodes .entry)) (now (nodes .exit))) r ⌝ }
 {
     let s = Shape { n, k, layers };
-    answer_number(transcript::write(s, transcript, nodes))
+    answer_number(writing::write(s, transcript, nodes))
 }
 
 // The check of all n nodes: 0 sound, a refusal's number, or the number of the first unmet equation behind FIRST_FOUND.
@@ -42,7 +43,7 @@ pub extern "C" fn archive_check(n: usize, k: usize, layers: usize, nodes: &[u16]
     ensures { λ r. ⌜ Returned (checkReturned (shapeOf n k layers)) (Checks (shapeOf n k layers) (now (nodes .entry))) r ⌝ }
 {
     let s = Shape { n, k, layers };
-    match code::check(s, nodes) {
+    match checking::check(s, nodes) {
         Checked::Sound => 0,
         Checked::Refused(cause) => number_of(cause),
         Checked::Unmet { layer, a, t } => FIRST_FOUND + equation_number(s, layer, a, t),
@@ -79,7 +80,7 @@ pub extern "C" fn archive_open(
     ensures { λ r. ⌜ Returned answerNumber (Opens (shapeOf n k layers) (now (list .entry)) (now (symbols .entry)) length (now (transcript .entry)) (now (transcript .exit))) r ⌝ }
 {
     let s = Shape { n, k, layers };
-    answer_number(transcript::open(s, list, symbols, length, transcript))
+    answer_number(opening::open(s, list, symbols, length, transcript))
 }
 
 // A helper's message to a new node.

@@ -9,10 +9,10 @@ use Rattle.shape.specs.declared.Shape.{Shape}
 use Rattle.shape.specs.Shape.{mostNodes, mostLayers, size}
 use Rattle.shape.specs.Refusals.{shapeBad}
 use Rattle.shape.proofs.Accepted.{Shaped, passed, shape-accepted}
-use Rattle.code.specs.declared.Checked.{Checked}
-use Rattle.code.specs.declared.Checked.the-variants.{Unmet}
+use Rattle.checking.specs.declared.Checked.{Checked}
+use Rattle.checking.specs.declared.Checked.the-variants.{Unmet}
 use Rattle.code.specs.Refusals.{checkRefusal}
-use Rattle.code.specs.Promises.{checkedNumber, equationNumber, Checks}
+use Rattle.checking.specs.Promises.{checkedNumber, equationNumber, Checks}
 
 -- equation t at (layer, a) is one of the shape's
 pub record Within (s : Shape) (layer a t : ℕ) : Type 0 where

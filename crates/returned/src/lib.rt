@@ -9,7 +9,7 @@ ghost use mathlib.Core.Bool.{false};
 ghost use Prim.Native.Nat.{_-_, _^_, _<_};
 ghost use lib.ListN.{length};
 ghost use Rattle.shape.specs.Refusals.{answerNumber, shapeBad};
-ghost use Rattle.code.specs.Promises.{equationNumber};
+ghost use Rattle.checking.specs.Promises.{equationNumber};
 ghost use Rattle.card.specs.Cards.{headerCount, headerNumbers};
 ghost use Rattle.returned.specs.Promises.{unpackRoom};
 

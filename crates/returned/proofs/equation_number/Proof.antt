@@ -1,7 +1,7 @@
 -- `returned::equation_number` meets its contract: the number and all on the way to it are small. Assumes nothing.
 use mathlib.Core.Path.{refl}
 use native.Mathlib.Omega.{arith}
-use Rattle.code.specs.Promises.{equationNumber}
+use Rattle.checking.specs.Promises.{equationNumber}
 use Rattle.returned.proofs.Equations.{Within, within}
 use Rattle.returned.proofs.equation_number.Statement.{statement}
 use Rattle.returned.proofs.equation_number.Tie as tie

@@ -1,0 +1,3 @@
+-- Laws of the check, lowest first.
+pub mod Gathering
+pub mod Checking

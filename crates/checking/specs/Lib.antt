@@ -1,0 +1,2 @@
+-- What the check answers, and what is promised of it.
+pub mod Promises

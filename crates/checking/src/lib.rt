@@ -1,0 +1,79 @@
+// The check of an archive (demand 2).
+use code::MODULUS;
+use code::gathered;
+use code::points_at;
+use column::parity;
+use shape::Answer;
+use shape::Refusal;
+use shape::Shape;
+use shape::shape_bad;
+use shape::size;
+use shape::symbol_bad;
+use shape::two_to;
+ghost use mathlib.Core.Path.{_≡_};
+ghost use Rattle.shape.specs.Refusals.{answerNumber};
+ghost use Rattle.code.specs.Code.{narrow};
+ghost use Rattle.code.specs.Archive.{firstUnmet};
+ghost use Rattle.code.specs.Refusals.{checkRefusal};
+ghost use Rattle.checking.specs.Promises.{checkedBy, Checks};
+
+// What the check answers: "sound, or the first unmet equation by layer, then a, then t".
+pub enum Checked {
+    Sound,
+    Unmet { layer: usize, a: usize, t: usize },
+    Refused(Refusal),
+}
+
+// Causes 1, 4 and 5 of a check, in this order.
+fn judge_check(s: Shape, nodes: &[u16]) -> Answer
+    ensures { λ r. ⌜ answerNumber r ≡ checkRefusal narrow s (now (nodes .entry)) ⌝ }
+{
+    if shape_bad(s) {
+        return Answer::Refused(Refusal::BadShape);
+    }
+    let n = s.n;
+    if nodes.len() != n * size(s) {
+        return Answer::Refused(Refusal::WrongLength);
+    }
+    if symbol_bad(MODULUS, nodes) {
+        return Answer::Refused(Refusal::BadSymbol);
+    }
+    Answer::Done
+}
+
+// The first equation whose sum is not 0. The points and the column of a place serve all its equations.
+fn first_unmet(s: Shape, nodes: &[u16]) -> Checked
+    requires { ⌜ checkRefusal narrow s (now nodes) ≡ 0 ⌝ }
+    ensures { λ found. ⌜ found ≡ checkedBy s (firstUnmet narrow s (now (nodes .entry))) ⌝ }
+{
+    let n = s.n;
+    let k = s.k;
+    let layers = s.layers;
+    let two = two_to(n);
+    let r = n - k;
+    let mut found = Checked::Sound;
+    'equations: for layer in 0..layers {
+        for a in 0..two {
+            let points = points_at(n, a);
+            let column = gathered(nodes, n, layers * two, layer * two + a);
+            let sums = parity(MODULUS, r, &points[..n], &column[..n]);
+            for t in 0..r {
+                if sums[t] != 0 {
+                    found = Checked::Unmet { layer, a, t };
+                    break 'equations;
+                }
+            }
+        }
+    }
+    found
+}
+
+// The check of all n nodes.
+pub fn check(s: Shape, nodes: &[u16]) -> Checked
+    ensures { λ answer. ⌜ Checks s (now (nodes .entry)) answer ⌝ }
+{
+    match judge_check(s, nodes) {
+        Answer::Refused(cause) => Checked::Refused(cause),
+        Answer::Done => first_unmet(s, nodes),
+    }
+}

@@ -1,0 +1,3 @@
+-- Laws of opening a place at a time, lowest first.
+pub mod Completing
+pub mod Restored

@@ -1,0 +1,2 @@
+-- What is promised of the functions inside opening.
+pub mod Steps

@@ -1,2 +1,0 @@
--- What is promised of the functions inside writing and opening.
-pub mod Steps

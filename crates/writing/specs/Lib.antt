@@ -1,0 +1,2 @@
+-- What is promised of the functions inside writing.
+pub mod Steps
