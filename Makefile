@@ -3,7 +3,7 @@
 
 demo: library
 	cd rust && cargo build --quiet --release --offline
-	rust/target/release/archive demo
+	rust/target/release/hmsr demo
 
 test:
 	.ci/run
@@ -11,6 +11,6 @@ test:
 bench: library
 	cd rust && cargo bench --offline
 
-# Proves the library's crates, where that is not done yet, and writes target/staticlib/libarchive.a.
+# Proves the library's crates, where that is not done yet, and writes target/staticlib/libhmsr.a.
 library:
-	rt staticlib archive
+	rt staticlib hmsr

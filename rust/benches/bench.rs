@@ -8,7 +8,7 @@
 #[path = "../tests/naive/mod.rs"]
 mod naive;
 
-use archive::Shape;
+use hmsr::Shape;
 use naive::random::Random;
 use std::hint::black_box;
 use std::time::{Duration, Instant};
@@ -270,21 +270,21 @@ fn bench_cards(table: &mut Table, written: &Written) {
         written.name("unpack"),
         size,
         size,
-        || archive::unpack(black_box(&packed), &mut symbols).unwrap(),
+        || hmsr::unpack(black_box(&packed), &mut symbols).unwrap(),
         || naive::unpack(black_box(&packed), size).unwrap(),
     );
 }
 
 /// A "symbol" of a plan is a byte of its text; no transcript is behind it.
 fn bench_plan(table: &mut Table, written: &Written, choice: &Choice) {
-    let input = archive::plan_input(written.shape, &choice.dead, &choice.helpers);
-    let mut text = vec![0; archive::PLAN_TEXT];
+    let input = hmsr::plan_input(written.shape, &choice.dead, &choice.helpers);
+    let mut text = vec![0; hmsr::PLAN_TEXT];
     let length = naive::plan(&input).len();
     table.line(
         written.name(&format!("plan h={}", choice.dead.len())),
         length,
         0,
-        || archive::plan(black_box(&input), &mut text).unwrap(),
+        || hmsr::plan(black_box(&input), &mut text).unwrap(),
         || naive::plan(black_box(&input)),
     );
     assert_eq!(&text[..length], naive::plan(&input).as_bytes());

@@ -22,11 +22,11 @@ impl Shape {
     /// card are as they were.
     ///
     /// ```
-    /// let shape = archive::Shape::new(3, 1, 1)?;
+    /// let shape = hmsr::Shape::new(3, 1, 1)?;
     /// let mut card = [0; 31];
     /// let length = shape.pack(1, 2, &[253, 247, 0, 0, 0, 0, 0, 0], &mut card)?;
     /// assert_eq!(card[..length], [3, 1, 1, 1, 2, 253, 1, 247, 1, 0, 0, 0, 0, 0, 0]);
-    /// # Ok::<(), archive::Refusal>(())
+    /// # Ok::<(), hmsr::Refusal>(())
     /// ```
     pub fn pack(&self, node: usize, length: usize, symbols: &[u16], card: &mut [u8]) -> Result<usize, Refusal> {
         let number = ffi::pack(*self, node, length, symbols, card);
@@ -49,10 +49,10 @@ impl Shape {
 ///
 /// ```
 /// let mut symbols = [0; 8];
-/// let header = archive::unpack(&[3, 1, 1, 1, 2, 253, 1, 247, 1, 0, 0, 0, 0, 0, 0], &mut symbols)?;
+/// let header = hmsr::unpack(&[3, 1, 1, 1, 2, 253, 1, 247, 1, 0, 0, 0, 0, 0, 0], &mut symbols)?;
 /// assert_eq!((header.node, header.length), (1, 2));
 /// assert_eq!(symbols, [253, 247, 0, 0, 0, 0, 0, 0]);
-/// # Ok::<(), archive::Refusal>(())
+/// # Ok::<(), hmsr::Refusal>(())
 /// ```
 pub fn unpack(card: &[u8], symbols: &mut [u16]) -> Result<Header, Refusal> {
     let mut numbers = [0; 5];
@@ -70,7 +70,7 @@ pub fn unpack_into(card: &[u8], symbols: &mut [u16], header: &mut [usize]) -> Re
 /// A card's header and symbols, in a new buffer.
 ///
 /// ```
-/// use archive::{unpack_to_vec, Refusal};
+/// use hmsr::{unpack_to_vec, Refusal};
 /// let (header, symbols) = unpack_to_vec(&[3, 1, 1, 1, 2, 253, 1, 247, 1, 0, 0, 0, 0, 0, 0])?;
 /// assert_eq!(header.shape.data, 1);
 /// assert_eq!(symbols, [253, 247, 0, 0, 0, 0, 0, 0]);

@@ -26,13 +26,13 @@ impl Shape {
     /// Writes the transcript (at most data × N bytes) into all nodes (nodes × N symbols).
     ///
     /// ```
-    /// let shape = archive::Shape::new(3, 1, 1)?;
+    /// let shape = hmsr::Shape::new(3, 1, 1)?;
     /// let mut nodes = [0; 24];
     /// shape.write(&[3, 6], &mut nodes)?;
     /// assert_eq!(nodes[..8], [3, 6, 0, 0, 0, 0, 0, 0]);
     /// assert_eq!(nodes[8..16], [253, 247, 0, 0, 0, 0, 0, 0]);
     /// assert_eq!(nodes[16..], [1, 4, 0, 0, 0, 0, 0, 0]);
-    /// # Ok::<(), archive::Refusal>(())
+    /// # Ok::<(), hmsr::Refusal>(())
     /// ```
     pub fn write(&self, transcript: &[u8], nodes: &mut [u16]) -> Result<(), Refusal> {
         answer(ffi::write(*self, transcript, nodes))
@@ -48,13 +48,13 @@ impl Shape {
     /// Whether all nodes (nodes × N symbols) meet the parity equations.
     ///
     /// ```
-    /// use archive::{Checked, Shape};
+    /// use hmsr::{Checked, Shape};
     /// let shape = Shape::new(3, 1, 1)?;
     /// let mut nodes = shape.write_to_nodes(&[3, 6])?;
     /// assert_eq!(shape.check(&nodes)?, Checked::Sound);
     /// nodes[17] = 5;
     /// assert_eq!(shape.check(&nodes)?, Checked::Unmet { layer: 0, a: 1, t: 0 });
-    /// # Ok::<(), archive::Refusal>(())
+    /// # Ok::<(), hmsr::Refusal>(())
     /// ```
     pub fn check(&self, nodes: &[u16]) -> Result<Checked, Refusal> {
         let number = ffi::check(*self, nodes);
@@ -77,11 +77,11 @@ impl Shape {
     /// Restores all nodes (nodes × N symbols) from the k that are listed, rising, with their symbols (data × N).
     ///
     /// ```
-    /// let shape = archive::Shape::new(3, 1, 1)?;
+    /// let shape = hmsr::Shape::new(3, 1, 1)?;
     /// let mut nodes = [0; 24];
     /// shape.restore(&[2], &[1, 4, 0, 0, 0, 0, 0, 0], &mut nodes)?;
     /// assert_eq!(nodes[..2], [3, 6]);
-    /// # Ok::<(), archive::Refusal>(())
+    /// # Ok::<(), hmsr::Refusal>(())
     /// ```
     pub fn restore(&self, list: &[usize], symbols: &[u16], nodes: &mut [u16]) -> Result<(), Refusal> {
         answer(ffi::restore(*self, list, symbols, nodes))
@@ -97,13 +97,13 @@ impl Shape {
     /// Opens the transcript of that length from the k nodes that are listed, rising, with their symbols (data × N).
     ///
     /// ```
-    /// use archive::{Refusal, Shape};
+    /// use hmsr::{Refusal, Shape};
     /// let shape = Shape::new(3, 1, 1)?;
     /// let mut transcript = [0; 2];
     /// shape.open(&[1], &[253, 247, 0, 0, 0, 0, 0, 0], 2, &mut transcript)?;
     /// assert_eq!(transcript, [3, 6]);
     /// assert_eq!(shape.open(&[1], &[87, 0, 0, 0, 0, 0, 0, 0], 1, &mut [0]), Err(Refusal::NoTranscript));
-    /// # Ok::<(), archive::Refusal>(())
+    /// # Ok::<(), hmsr::Refusal>(())
     /// ```
     pub fn open(&self, list: &[usize], symbols: &[u16], length: usize, transcript: &mut [u8]) -> Result<(), Refusal> {
         answer(ffi::open(*self, list, symbols, length, transcript))

@@ -6,64 +6,64 @@
 use crate::Shape;
 
 extern "C" {
-    fn archive_write(
+    fn hmsr_write(
         n: usize, k: usize, layers: usize, transcript: *const u8, transcript_len: usize, nodes: *mut u16,
         nodes_len: usize,
     ) -> usize;
-    fn archive_check(n: usize, k: usize, layers: usize, nodes: *const u16, nodes_len: usize) -> usize;
-    fn archive_restore(
+    fn hmsr_check(n: usize, k: usize, layers: usize, nodes: *const u16, nodes_len: usize) -> usize;
+    fn hmsr_restore(
         n: usize, k: usize, layers: usize, list: *const usize, list_len: usize, symbols: *const u16,
         symbols_len: usize, nodes: *mut u16, nodes_len: usize,
     ) -> usize;
-    fn archive_open(
+    fn hmsr_open(
         n: usize, k: usize, layers: usize, list: *const usize, list_len: usize, symbols: *const u16,
         symbols_len: usize, length: usize, transcript: *mut u8, transcript_len: usize,
     ) -> usize;
-    fn archive_helper_message(
+    fn hmsr_helper_message(
         n: usize, k: usize, layers: usize, dead: *const usize, dead_len: usize, helpers: *const usize,
         helpers_len: usize, helper: usize, new_node: usize, symbols: *const u16, symbols_len: usize, message: *mut u16,
         message_len: usize,
     ) -> usize;
-    fn archive_first_step(
+    fn hmsr_first_step(
         n: usize, k: usize, layers: usize, dead: *const usize, dead_len: usize, helpers: *const usize,
         helpers_len: usize, new_node: usize, messages: *const u16, messages_len: usize, pairs: *mut u16,
         pairs_len: usize, sums: *mut u16, sums_len: usize,
     ) -> usize;
-    fn archive_second_step(
+    fn hmsr_second_step(
         n: usize, k: usize, layers: usize, dead: *const usize, dead_len: usize, helpers: *const usize,
         helpers_len: usize, new_node: usize, pairs: *const u16, pairs_len: usize, received: *const u16,
         received_len: usize, symbols: *mut u16, symbols_len: usize,
     ) -> usize;
-    fn archive_repair(
+    fn hmsr_repair(
         n: usize, k: usize, layers: usize, dead: *const usize, dead_len: usize, helpers: *const usize,
         helpers_len: usize, nodes: *mut u16, nodes_len: usize, wire: *mut u16, wire_len: usize,
     ) -> usize;
-    fn archive_pack(
+    fn hmsr_pack(
         n: usize, k: usize, layers: usize, node: usize, length: usize, symbols: *const u16, symbols_len: usize,
         card: *mut u8, card_len: usize,
     ) -> usize;
-    fn archive_unpack(
+    fn hmsr_unpack(
         card: *const u8, card_len: usize, symbols: *mut u16, symbols_len: usize, header: *mut usize, header_len: usize,
     ) -> usize;
-    fn archive_plan(input: *const u8, input_len: usize, text: *mut u8, text_len: usize) -> usize;
+    fn hmsr_plan(input: *const u8, input_len: usize, text: *mut u8, text_len: usize) -> usize;
 }
 
 pub(crate) fn write(s: Shape, transcript: &[u8], nodes: &mut [u16]) -> usize {
     // SAFETY: see the top of this file.
     unsafe {
-        archive_write(s.nodes, s.data, s.layers, transcript.as_ptr(), transcript.len(), nodes.as_mut_ptr(), nodes.len())
+        hmsr_write(s.nodes, s.data, s.layers, transcript.as_ptr(), transcript.len(), nodes.as_mut_ptr(), nodes.len())
     }
 }
 
 pub(crate) fn check(s: Shape, nodes: &[u16]) -> usize {
     // SAFETY: see the top of this file.
-    unsafe { archive_check(s.nodes, s.data, s.layers, nodes.as_ptr(), nodes.len()) }
+    unsafe { hmsr_check(s.nodes, s.data, s.layers, nodes.as_ptr(), nodes.len()) }
 }
 
 pub(crate) fn restore(s: Shape, list: &[usize], symbols: &[u16], nodes: &mut [u16]) -> usize {
     // SAFETY: see the top of this file.
     unsafe {
-        archive_restore(
+        hmsr_restore(
             s.nodes,
             s.data,
             s.layers,
@@ -80,7 +80,7 @@ pub(crate) fn restore(s: Shape, list: &[usize], symbols: &[u16], nodes: &mut [u1
 pub(crate) fn open(s: Shape, list: &[usize], symbols: &[u16], length: usize, transcript: &mut [u8]) -> usize {
     // SAFETY: see the top of this file.
     unsafe {
-        archive_open(
+        hmsr_open(
             s.nodes,
             s.data,
             s.layers,
@@ -100,7 +100,7 @@ pub(crate) fn helper_message(
 ) -> usize {
     // SAFETY: see the top of this file.
     unsafe {
-        archive_helper_message(
+        hmsr_helper_message(
             s.nodes,
             s.data,
             s.layers,
@@ -123,7 +123,7 @@ pub(crate) fn first_step(
 ) -> usize {
     // SAFETY: see the top of this file.
     unsafe {
-        archive_first_step(
+        hmsr_first_step(
             s.nodes,
             s.data,
             s.layers,
@@ -147,7 +147,7 @@ pub(crate) fn second_step(
 ) -> usize {
     // SAFETY: see the top of this file.
     unsafe {
-        archive_second_step(
+        hmsr_second_step(
             s.nodes,
             s.data,
             s.layers,
@@ -169,7 +169,7 @@ pub(crate) fn second_step(
 pub(crate) fn repair(s: Shape, dead: &[usize], helpers: &[usize], nodes: &mut [u16], wire: &mut [u16]) -> usize {
     // SAFETY: see the top of this file.
     unsafe {
-        archive_repair(
+        hmsr_repair(
             s.nodes,
             s.data,
             s.layers,
@@ -188,7 +188,7 @@ pub(crate) fn repair(s: Shape, dead: &[usize], helpers: &[usize], nodes: &mut [u
 pub(crate) fn pack(s: Shape, node: usize, length: usize, symbols: &[u16], card: &mut [u8]) -> usize {
     // SAFETY: see the top of this file.
     unsafe {
-        archive_pack(
+        hmsr_pack(
             s.nodes,
             s.data,
             s.layers,
@@ -205,7 +205,7 @@ pub(crate) fn pack(s: Shape, node: usize, length: usize, symbols: &[u16], card: 
 pub(crate) fn unpack(card: &[u8], symbols: &mut [u16], header: &mut [usize]) -> usize {
     // SAFETY: see the top of this file.
     unsafe {
-        archive_unpack(
+        hmsr_unpack(
             card.as_ptr(),
             card.len(),
             symbols.as_mut_ptr(),
@@ -218,5 +218,5 @@ pub(crate) fn unpack(card: &[u8], symbols: &mut [u16], header: &mut [usize]) -> 
 
 pub(crate) fn plan(input: &[u8], text: &mut [u8]) -> usize {
     // SAFETY: see the top of this file.
-    unsafe { archive_plan(input.as_ptr(), input.len(), text.as_mut_ptr(), text.len()) }
+    unsafe { hmsr_plan(input.as_ptr(), input.len(), text.as_mut_ptr(), text.len()) }
 }

@@ -9,7 +9,7 @@
 //! behind the other in a buffer of nodes × N.
 //!
 //! ```
-//! use archive::Shape;
+//! use hmsr::Shape;
 //!
 //! let shape = Shape::new(4, 1, 3)?;
 //! let mut nodes = shape.write_to_nodes(b"the witness was sworn")?;
@@ -18,7 +18,7 @@
 //! shape.repair_nodes(&[0, 1], &[2, 3], &mut nodes)?; // nodes 2 and 3 help
 //! let transcript = shape.open_to_vec(&[0], &nodes[..n], 21)?; // from node 0 alone
 //! assert_eq!(transcript, b"the witness was sworn");
-//! # Ok::<(), archive::Refusal>(())
+//! # Ok::<(), hmsr::Refusal>(())
 //! ```
 #![warn(missing_docs)]
 #![deny(unsafe_code, unsafe_op_in_unsafe_fn)]

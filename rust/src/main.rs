@@ -1,4 +1,4 @@
-//! The program `archive`: prints what a command reports, or one line that says why it turned back.
+//! The program `hmsr`: prints what a command reports, or one line that says why it turned back.
 #![forbid(unsafe_code)]
 
 mod cli;
@@ -33,7 +33,7 @@ fn complain(failure: &Failure) {
         Failure::Work(message) => (message, ""),
         Failure::Usage(message) => (message, cli::USAGE),
     };
-    let _ = write!(io::stderr(), "archive: {}\n{usage}", one_line(message));
+    let _ = write!(io::stderr(), "hmsr: {}\n{usage}", one_line(message));
 }
 
 /// A message without line ends or other control characters, which file names may have.

@@ -20,9 +20,9 @@ pub fn plan(input: &[u8], text: &mut [u8]) -> Option<usize> {
 /// The plan for an input.
 ///
 /// ```
-/// let text = archive::plan_text(&[4, 1, 3, 2, 0, 1, 2, 3]);
+/// let text = hmsr::plan_text(&[4, 1, 3, 2, 0, 1, 2, 3]);
 /// assert_eq!(text, b"4 1 3 2\n2 0 16\n3 0 16\n2 1 16\n3 1 16\n1 0 16\n0 1 16\n96\n");
-/// assert_eq!(archive::plan_text(&[4]), b"6\n");
+/// assert_eq!(hmsr::plan_text(&[4]), b"6\n");
 /// ```
 pub fn plan_text(input: &[u8]) -> Vec<u8> {
     let mut text = vec![0; PLAN_TEXT];
@@ -34,7 +34,7 @@ pub fn plan_text(input: &[u8]) -> Vec<u8> {
 /// The input of the plan for a repair.
 ///
 /// ```
-/// use archive::{plan_input, Shape};
+/// use hmsr::{plan_input, Shape};
 /// let shape = Shape { nodes: 4, data: 1, layers: 3 };
 /// assert_eq!(plan_input(shape, &[0, 1], &[2, 3]), [4, 1, 3, 2, 0, 1, 2, 3]);
 /// ```

@@ -40,7 +40,7 @@ impl Refusal {
     /// The cause's number, 1 to 8.
     ///
     /// ```
-    /// assert_eq!(archive::Refusal::PartBatch.number(), 3);
+    /// assert_eq!(hmsr::Refusal::PartBatch.number(), 3);
     /// ```
     pub fn number(self) -> usize {
         self as usize
@@ -49,7 +49,7 @@ impl Refusal {
     /// The cause with that number.
     ///
     /// ```
-    /// use archive::Refusal;
+    /// use hmsr::Refusal;
     /// assert_eq!(Refusal::from_number(7), Some(Refusal::NoTranscript));
     /// assert_eq!(Refusal::from_number(0), None);
     /// ```

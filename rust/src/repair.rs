@@ -8,11 +8,11 @@ impl Shape {
     /// The message (N/(h+1) symbols) of a helper, from its own N symbols, to a new node.
     ///
     /// ```
-    /// let shape = archive::Shape::new(3, 1, 1)?;
+    /// let shape = hmsr::Shape::new(3, 1, 1)?;
     /// let mut message = [0; 4];
     /// shape.helper_message(&[0], &[1, 2], 1, 0, &[253, 247, 0, 0, 0, 0, 0, 0], &mut message)?;
     /// assert_eq!(message, [243, 0, 0, 0]);
-    /// # Ok::<(), archive::Refusal>(())
+    /// # Ok::<(), hmsr::Refusal>(())
     /// ```
     pub fn helper_message(
         &self, dead: &[usize], helpers: &[usize], helper: usize, new_node: usize, symbols: &[u16], message: &mut [u16],
@@ -41,14 +41,14 @@ impl Shape {
     /// (h(k+h)N/(h+1) symbols), in the plan's order. The dead nodes and those that do not help are not read.
     ///
     /// ```
-    /// let shape = archive::Shape::new(3, 1, 1)?;
+    /// let shape = hmsr::Shape::new(3, 1, 1)?;
     /// let mut nodes = shape.write_to_nodes(&[3, 6])?;
     /// nodes[..8].fill(65535);
     /// let mut wire = [0; 8];
     /// shape.repair(&[0], &[1, 2], &mut nodes, &mut wire)?;
     /// assert_eq!(nodes[..8], [3, 6, 0, 0, 0, 0, 0, 0]);
     /// assert_eq!(wire, [243, 0, 0, 0, 5, 0, 0, 0]);
-    /// # Ok::<(), archive::Refusal>(())
+    /// # Ok::<(), hmsr::Refusal>(())
     /// ```
     pub fn repair(
         &self, dead: &[usize], helpers: &[usize], nodes: &mut [u16], wire: &mut [u16],

@@ -18,7 +18,7 @@ impl Shape {
     /// A shape within the ranges.
     ///
     /// ```
-    /// use archive::{Refusal, Shape};
+    /// use hmsr::{Refusal, Shape};
     /// assert!(Shape::new(12, 6, 15).is_ok());
     /// assert_eq!(Shape::new(12, 11, 15), Err(Refusal::BadShape));
     /// ```
@@ -50,7 +50,7 @@ impl Shape {
     /// data × N: the symbols of any k nodes, and the bytes of the longest transcript.
     ///
     /// ```
-    /// assert_eq!(archive::Shape { nodes: 12, data: 6, layers: 15 }.capacity(), Ok(368_640));
+    /// assert_eq!(hmsr::Shape { nodes: 12, data: 6, layers: 15 }.capacity(), Ok(368_640));
     /// ```
     pub fn capacity(&self) -> Result<usize, Refusal> {
         Ok(self.data * self.node_symbols()?)
@@ -64,7 +64,7 @@ impl Shape {
     /// s, the odd part of h + 1: a repair of h dead nodes goes through the layers in batches of s.
     ///
     /// ```
-    /// let shape = archive::Shape { nodes: 12, data: 6, layers: 15 };
+    /// let shape = hmsr::Shape { nodes: 12, data: 6, layers: 15 };
     /// assert_eq!((1..6).map(|h| shape.batch_layers(h).unwrap()).collect::<Vec<_>>(), [1, 3, 1, 5, 3]);
     /// ```
     pub fn batch_layers(&self, dead_count: usize) -> Result<usize, Refusal> {
@@ -87,7 +87,7 @@ impl Shape {
     /// h(k+h)N/(h+1), the symbols that a repair of h dead nodes sends in all.
     ///
     /// ```
-    /// assert_eq!(archive::Shape { nodes: 4, data: 1, layers: 3 }.wire_symbols(2), Ok(96));
+    /// assert_eq!(hmsr::Shape { nodes: 4, data: 1, layers: 3 }.wire_symbols(2), Ok(96));
     /// ```
     pub fn wire_symbols(&self, dead_count: usize) -> Result<usize, Refusal> {
         Ok(dead_count * (self.data + dead_count) * self.message_symbols(dead_count)?)

@@ -12,7 +12,7 @@ fn the_c_example_repairs_and_opens() {
         .args(["-std=c11", "-Wall", "-Wextra", "-Werror", "-I"])
         .arg(top.join("include"))
         .arg(top.join("examples/example.c"))
-        .arg(env!("ARCHIVE_LIBRARY"))
+        .arg(env!("HMSR_LIBRARY"))
         .arg("-o")
         .arg(&program)
         .output()

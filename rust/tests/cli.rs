@@ -6,7 +6,7 @@ use std::os::unix::fs::{symlink, PermissionsExt};
 use std::path::{Path, PathBuf};
 use std::process::{Command, Output};
 
-const ARCHIVE: &str = env!("CARGO_BIN_EXE_archive");
+const ARCHIVE: &str = env!("CARGO_BIN_EXE_hmsr");
 
 /// A directory of its own for a test, empty at first.
 struct Place(PathBuf);
@@ -56,7 +56,7 @@ impl Place {
         let complaint = String::from_utf8(output.stderr.clone()).unwrap();
         assert_eq!(output.status.code(), Some(1), "{line}: {complaint}");
         assert!(output.stdout.is_empty(), "{line}");
-        assert!(complaint.starts_with("archive: ") && complaint.ends_with('\n'), "{line}: {complaint}");
+        assert!(complaint.starts_with("hmsr: ") && complaint.ends_with('\n'), "{line}: {complaint}");
         assert_eq!(complaint.matches('\n').count(), 1, "{line}: {complaint}");
         for word in words {
             assert!(complaint.contains(word), "{line}: {complaint} lacks {word}");
@@ -590,13 +590,13 @@ fn arguments_that_are_not_understood_show_the_usage() {
         let output = place.run(line);
         let complaints = String::from_utf8(output.stderr).unwrap();
         assert_eq!(output.status.code(), Some(1), "{line}");
-        assert!(output.stdout.is_empty() && complaints.contains("archive repair DIR"), "{line}");
-        assert_eq!(complaints.lines().next(), Some(&*format!("archive: {complaint}")), "{line}");
+        assert!(output.stdout.is_empty() && complaints.contains("hmsr repair DIR"), "{line}");
+        assert_eq!(complaints.lines().next(), Some(&*format!("hmsr: {complaint}")), "{line}");
     }
     let output = place.run_with_limit(&[], "unlimited");
     assert_eq!(output.status.code(), Some(1));
-    assert!(String::from_utf8(output.stderr).unwrap().contains("archive write FILE DIR"));
+    assert!(String::from_utf8(output.stderr).unwrap().contains("hmsr write FILE DIR"));
     for line in ["--help", "help", "repair --help"] {
-        assert!(place.does(line).contains("archive write FILE DIR"), "{line}");
+        assert!(place.does(line).contains("hmsr write FILE DIR"), "{line}");
     }
 }

@@ -1,5 +1,5 @@
 //! The library beside the naive implementation on random, damaged and hostile inputs of every call. A failure prints
-//! its seed; ARCHIVE_SEED=.. makes that seed the first one tried.
+//! its seed; HMSR_SEED=.. makes that seed the first one tried.
 
 #[path = "naive/alone.rs"]
 mod alone;
@@ -29,7 +29,7 @@ impl Drop for Seed {
 /// Runs so many cases, each with a seed of its own. Asserts that exactly these numbers came up, each in one of two
 /// hundred cases at least.
 fn try_cases(count: usize, numbers: &[Number], mut case: impl FnMut(&mut Random) -> Number) {
-    let first = std::env::var("ARCHIVE_SEED").map_or(1, |seed| seed.parse().expect("a number"));
+    let first = std::env::var("HMSR_SEED").map_or(1, |seed| seed.parse().expect("a number"));
     let mut tally = [0; 10];
     for seed in first..first + count as u64 {
         let seed = Seed(seed);
@@ -110,8 +110,8 @@ fn check_finds_every_equation() {
             let symbol = &mut nodes[node * size + place];
             *symbol = naive::field::add(u32::from(*symbol), value) as u16;
         }
-        let unmet = archive::Checked::Unmet { layer: place / shape.width(), a: place % shape.width(), t };
-        let checked = archive::Shape { nodes: 7, data: 2, layers: 2 }.check(&nodes);
+        let unmet = hmsr::Checked::Unmet { layer: place / shape.width(), a: place % shape.width(), t };
+        let checked = hmsr::Shape { nodes: 7, data: 2, layers: 2 }.check(&nodes);
         assert_eq!(checked, Ok(unmet));
     }
 }
@@ -428,7 +428,7 @@ fn plan() {
             _ => {}
         }
         let text_length =
-            if random.once_in(20) { archive::PLAN_TEXT - 1 } else { archive::PLAN_TEXT + random.below(9) };
+            if random.once_in(20) { hmsr::PLAN_TEXT - 1 } else { hmsr::PLAN_TEXT + random.below(9) };
         compare::plan(random, &input, text_length)
     });
 }

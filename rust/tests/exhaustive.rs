@@ -28,8 +28,8 @@ impl Repair {
         Repair { shape, dead: dead.to_vec(), helpers: helpers.to_vec(), before }
     }
 
-    fn library(&self) -> archive::Shape {
-        archive::Shape { nodes: self.shape.n, data: self.shape.k, layers: self.shape.layers }
+    fn library(&self) -> hmsr::Shape {
+        hmsr::Shape { nodes: self.shape.n, data: self.shape.k, layers: self.shape.layers }
     }
 
     /// N/(h+1).

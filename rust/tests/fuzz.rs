@@ -1,5 +1,5 @@
 //! Random and mutated cards and plan inputs, library beside naive implementation, for as many seconds each as the
-//! environment's ARCHIVE_FUZZ_SECONDS says (3 if it says nothing). ARCHIVE_SEED=.. makes another series of inputs.
+//! environment's HMSR_FUZZ_SECONDS says (3 if it says nothing). HMSR_SEED=.. makes another series of inputs.
 
 #[path = "naive/compare.rs"]
 mod compare;
@@ -15,8 +15,8 @@ fn from_environment(name: &str, otherwise: u64) -> u64 {
 
 /// Tries inputs made by `make` until the time is over; prints how many, and the input of a failure.
 fn fuzz(make: fn(&mut Random) -> Vec<u8>, compare: fn(&mut Random, &[u8]) -> usize) -> [usize; 10] {
-    let mut random = Random::new(from_environment("ARCHIVE_SEED", 1));
-    let time = Duration::from_secs(from_environment("ARCHIVE_FUZZ_SECONDS", 3));
+    let mut random = Random::new(from_environment("HMSR_SEED", 1));
+    let time = Duration::from_secs(from_environment("HMSR_FUZZ_SECONDS", 3));
     let start = Instant::now();
     let mut tally = [0; 10];
     while start.elapsed() < time {
@@ -103,7 +103,7 @@ fn unpack(random: &mut Random, card: &[u8]) -> usize {
 /// An accepted card packed again gives the same bytes.
 fn assert_packs_again(card: &[u8], length: usize) {
     let mut symbols = vec![0; length];
-    let header = archive::unpack(card, &mut symbols).unwrap();
+    let header = hmsr::unpack(card, &mut symbols).unwrap();
     assert_eq!(header.shape.pack_to_vec(header.node, header.length, &symbols).unwrap(), card);
 }
 
@@ -132,7 +132,7 @@ fn plan_input(random: &mut Random) -> Vec<u8> {
 
 #[test]
 fn plans() {
-    let tally = fuzz(plan_input, |random, input| compare::plan(random, input, archive::PLAN_TEXT));
+    let tally = fuzz(plan_input, |random, input| compare::plan(random, input, hmsr::PLAN_TEXT));
     for number in [0, 1, 2, 3, 6] {
         assert!(tally[number] > 0, "number {number} never came up");
     }

@@ -3,7 +3,7 @@
 
 mod naive;
 
-use archive::{Checked, Refusal, Shape};
+use hmsr::{Checked, Refusal, Shape};
 use naive::lent::Lent;
 use naive::random::Random;
 
@@ -423,7 +423,7 @@ const CARD: &[Cause<Numbers>] = &[
 fn unpack_number(card: &Numbers) -> usize {
     let mut symbols = garbage(card.symbols_length);
     let mut header = Lent::numbers(card.header_length);
-    let answer = archive::unpack_into(&card.bytes(), symbols.slice(), header.slice());
+    let answer = hmsr::unpack_into(&card.bytes(), symbols.slice(), header.slice());
     if answer.is_err() {
         header.assert_holds(&[]);
     }
@@ -493,7 +493,7 @@ fn accepted_plan() -> Numbers {
 
 /// The number that is the plan's only line; 0 where there are more.
 fn plan_number(input: &Numbers) -> usize {
-    let text = String::from_utf8(archive::plan_text(&input.bytes())).unwrap();
+    let text = String::from_utf8(hmsr::plan_text(&input.bytes())).unwrap();
     match text.lines().collect::<Vec<_>>()[..] {
         [line] => line.parse().unwrap(),
         _ => 0,
@@ -516,9 +516,9 @@ fn every_cut_plan_is_refused() {
 
 #[test]
 fn a_short_text_buffer_is_not_touched() {
-    for length in [0, 1, archive::PLAN_TEXT - 1] {
+    for length in [0, 1, hmsr::PLAN_TEXT - 1] {
         let mut text = Lent::bytes(&mut Random::new(1), length);
-        assert_eq!(archive::plan(&accepted_plan().bytes(), text.slice()), None);
+        assert_eq!(hmsr::plan(&accepted_plan().bytes(), text.slice()), None);
         text.assert_holds(&[]);
     }
 }

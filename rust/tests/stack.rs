@@ -2,7 +2,7 @@
 //! made at the largest shapes by a thread with little stack, and its results are held to what was written. A call that
 //! needs more stack ends the whole test program, which names the thread: each thread has the name of its call.
 
-use archive::{unpack, Checked, Header, Refusal, Shape};
+use hmsr::{unpack, Checked, Header, Refusal, Shape};
 use std::thread;
 
 /// The stack of a thread, in bytes. The buffers stand outside; in them an archive takes 1440 KiB, one node 120 KiB.

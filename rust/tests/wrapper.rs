@@ -1,6 +1,6 @@
 //! What the wrapper adds to the library: no length, shape or card from safe code can do harm, and the conveniences answer
 //! as the calls they wrap.
-use archive::{
+use hmsr::{
     plan, plan_input, plan_text, unpack, unpack_into, unpack_to_vec, Checked, Header, Refusal, Shape, PLAN_TEXT,
 };
 

@@ -2,7 +2,7 @@
 use std::fs;
 use std::path::{Path, PathBuf};
 
-use archive::{unpack_to_vec, Header, Refusal, Shape};
+use hmsr::{unpack_to_vec, Header, Refusal, Shape};
 
 use super::{files, listed, Failure};
 

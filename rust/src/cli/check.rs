@@ -1,5 +1,5 @@
-//! `archive check`: whether every card is there and all agree.
-use archive::Checked;
+//! `hmsr check`: whether every card is there and all agree.
+use hmsr::Checked;
 
 use super::args::Args;
 use super::cards::Cards;
@@ -20,7 +20,7 @@ pub fn run(args: &Args) -> Result<String, Failure> {
              open it, and write it anew",
             cards.absent_described()
         ),
-        false => format!("{}; the other {present} agree: run archive repair", cards.absent_described()),
+        false => format!("{}; the other {present} agree: run hmsr repair", cards.absent_described()),
     }))
 }
 

@@ -1,4 +1,4 @@
-//! `archive demo`: an archive written, three nodes lost and repaired, and the transcript opened from others.
+//! `hmsr demo`: an archive written, three nodes lost and repaired, and the transcript opened from others.
 use std::env;
 use std::fs;
 use std::io;
@@ -23,12 +23,12 @@ pub fn run() -> Result<String, Failure> {
 
     let mut report =
         format!("A transcript of {} bytes over {NODES} drives, any {DATA} of which give it back.\n", text.len());
-    report += &format!("\n$ archive write transcript.txt drives --nodes {NODES} --data {DATA}\n");
+    report += &format!("\n$ hmsr write transcript.txt drives --nodes {NODES} --data {DATA}\n");
     report += &write::write(&transcript, &drives, NODES, DATA, None)?;
-    report += &format!("\nDrives {} are lost.\n\n$ archive repair drives\n", listed(&LOST));
+    report += &format!("\nDrives {} are lost.\n\n$ hmsr repair drives\n", listed(&LOST));
     let written = lose(&drives)?;
     report += &repair::repair(&drives, None, None)?;
-    report += &format!("\nThe transcript from drives {} alone.\n\n$ archive open others opened.txt\n", listed(&OPENED));
+    report += &format!("\nThe transcript from drives {} alone.\n\n$ hmsr open others opened.txt\n", listed(&OPENED));
     report += &opened(&place.0, &drives)?;
     report += &compared(&place.0, &drives, &text, &written)?;
     let shape = Cards::load(&drives)?.shape;
@@ -86,7 +86,7 @@ struct Temporary(PathBuf);
 
 impl Temporary {
     fn make() -> Result<Temporary, Failure> {
-        let path = env::temp_dir().join(format!("archive-demo-{}", process::id()));
+        let path = env::temp_dir().join(format!("hmsr-demo-{}", process::id()));
         fs::create_dir(&path).map_err(|e| Failure::of_path("make the directory", &path, &e))?;
         Ok(Temporary(path))
     }

@@ -2,7 +2,7 @@
 use std::io;
 use std::path::Path;
 
-use archive::Refusal;
+use hmsr::Refusal;
 
 /// One line for the user.
 #[derive(Debug)]

@@ -1,4 +1,4 @@
-//! `archive info`: what a card says of itself.
+//! `hmsr info`: what a card says of itself.
 use super::args::Args;
 use super::cards::read_card;
 use super::Failure;

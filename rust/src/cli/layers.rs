@@ -1,5 +1,5 @@
 //! Which number of layers an archive gets where the user names none.
-use archive::Shape;
+use hmsr::Shape;
 
 use super::{listed, Failure};
 

@@ -21,20 +21,20 @@ pub use failure::Failure;
 pub const USAGE: &str = "\
 A transcript spread over drives, any k of which give it back, and lost ones refilled.
 
-  archive write FILE DIR --nodes N --data K [--layers L]
+  hmsr write FILE DIR --nodes N --data K [--layers L]
                      write FILE into N cards, DIR/node-00.card and so on, any K of which give it back
                      (N is 3 to 12, K is 1 to N - 2; without --layers the best number from 1 to 15 is chosen)
-  archive check DIR  whether every card is there and all agree
-  archive open DIR OUT
+  hmsr check DIR  whether every card is there and all agree
+  hmsr open DIR OUT
                      put the transcript into the new file OUT, from any K cards
-  archive repair DIR [--dead LIST] [--helpers LIST]
+  hmsr repair DIR [--dead LIST] [--helpers LIST]
                      make missing and unreadable cards anew, all of them or those in LIST, with the help of
                      K + 1 others; LIST is node numbers with commas, as 0,3,7
-  archive plan --nodes N --data K --layers L --dead LIST --helpers LIST
+  hmsr plan --nodes N --data K --layers L --dead LIST --helpers LIST
                      who sends how many symbols to whom in a repair
-  archive info CARD  what a card says of itself
-  archive demo       write, lose, repair and open an archive in a temporary directory
-  archive --help     this text
+  hmsr info CARD  what a card says of itself
+  hmsr demo       write, lose, repair and open an archive in a temporary directory
+  hmsr --help     this text
 
 Exit status: 0, or 1 and one line on standard error; nothing is left half written.
 ";

@@ -1,4 +1,4 @@
-//! `archive open`: the transcript, from any k cards, into a new file.
+//! `hmsr open`: the transcript, from any k cards, into a new file.
 use std::fs;
 use std::path::Path;
 

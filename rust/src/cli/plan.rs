@@ -1,5 +1,5 @@
-//! `archive plan`: the transfer plan of a repair, as the plan program prints it.
-use archive::{plan_input, plan_text, Refusal, Shape};
+//! `hmsr plan`: the transfer plan of a repair, as the plan program prints it.
+use hmsr::{plan_input, plan_text, Refusal, Shape};
 
 use super::args::Args;
 use super::Failure;

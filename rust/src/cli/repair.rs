@@ -1,9 +1,9 @@
-//! `archive repair`: missing and unreadable cards made anew, with the help of k + 1 others.
+//! `hmsr repair`: missing and unreadable cards made anew, with the help of k + 1 others.
 use std::fs;
 use std::io;
 use std::path::{Path, PathBuf};
 
-use archive::Shape;
+use hmsr::Shape;
 
 use super::args::Args;
 use super::cards::{card_path, Cards};

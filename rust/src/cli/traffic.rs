@@ -1,5 +1,5 @@
 //! What a repair sends, against repairs that read whole nodes.
-use archive::Shape;
+use hmsr::Shape;
 
 /// Bytes of a symbol on the wire.
 pub const SYMBOL_BYTES: usize = 2;

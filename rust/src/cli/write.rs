@@ -1,8 +1,8 @@
-//! `archive write`: a transcript into one card a node.
+//! `hmsr write`: a transcript into one card a node.
 use std::fs;
 use std::path::{Path, PathBuf};
 
-use archive::Shape;
+use hmsr::Shape;
 
 use super::args::Args;
 use super::cards::{card_path, numbers_of_cards};

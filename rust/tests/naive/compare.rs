@@ -5,10 +5,10 @@
 use super::naive::lent::Lent;
 use super::naive::random::Random;
 use super::naive::{self, Header, Number, Shape};
-use archive::{Checked, Refusal};
+use hmsr::{Checked, Refusal};
 
-fn library(shape: Shape) -> archive::Shape {
-    archive::Shape { nodes: shape.n, data: shape.k, layers: shape.layers }
+fn library(shape: Shape) -> hmsr::Shape {
+    hmsr::Shape { nodes: shape.n, data: shape.k, layers: shape.layers }
 }
 
 /// Asserts that both did their work or turned back with the same number. Gives the number and what was made.
@@ -137,7 +137,7 @@ pub fn pack(random: &mut Random, header: Header, symbols: &[u16], card_length: u
 pub fn unpack(random: &mut Random, card: &[u8], symbols_length: usize, header_length: usize) -> Number {
     let mut symbols = Lent::symbols(random, symbols_length);
     let mut header = Lent::numbers(header_length);
-    let answer = archive::unpack_into(card, symbols.slice(), header.slice());
+    let answer = hmsr::unpack_into(card, symbols.slice(), header.slice());
     let exact = if header_length == 5 { symbols_length } else { usize::MAX };
     let expected = naive::unpack(card, exact).map(|(header, symbols)| {
         let Header { shape, node, length } = header;
@@ -152,10 +152,10 @@ pub fn unpack(random: &mut Random, card: &[u8], symbols_length: usize, header_le
 /// The number that the plan's text is, and 0 for a plan; 4 where the text buffer is too short.
 pub fn plan(random: &mut Random, input: &[u8], text_length: usize) -> Number {
     let mut text = Lent::bytes(random, text_length);
-    let answer = archive::plan(input, text.slice());
+    let answer = hmsr::plan(input, text.slice());
     let printed = naive::plan(input);
-    assert!(printed.len() <= archive::PLAN_TEXT);
-    let expected = if text_length < archive::PLAN_TEXT { None } else { Some(printed.as_str()) };
+    assert!(printed.len() <= hmsr::PLAN_TEXT);
+    let expected = if text_length < hmsr::PLAN_TEXT { None } else { Some(printed.as_str()) };
     assert_eq!(answer, expected.map(str::len));
     text.assert_holds(expected.unwrap_or("").as_bytes());
     match expected {

@@ -3,7 +3,7 @@
 
 use super::digest::{group_line, Tally};
 use super::forms::{coded_byte, with_form};
-use archive::{unpack, Header, Shape};
+use hmsr::{unpack, Header, Shape};
 
 /// "Its card for node 1: 3 1 1 1 2 253 1 247 1 0 0 0 0 0 0."
 const SAMPLE: [u8; 15] = [3, 1, 1, 1, 2, 253, 1, 247, 1, 0, 0, 0, 0, 0, 0];

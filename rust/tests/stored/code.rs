@@ -1,7 +1,7 @@
 //! Archives over many shapes, written, checked, restored, opened and damaged, with a digest of what each step gives.
 
 use super::digest::{line, mixed, mixed_all, next, number, numbers, random_symbols};
-use archive::{Checked, Shape};
+use hmsr::{Checked, Shape};
 
 /// n, k, L and the length of the transcript.
 const CASES: [(usize, usize, usize, usize); 21] = [

@@ -1,6 +1,6 @@
 //! What the stored cases share: the generator of numbers and symbols, the digests, the tally of answers, the lines.
 
-use archive::Refusal;
+use hmsr::Refusal;
 use std::iter::successors;
 
 /// The next number of a linear congruential generator.

@@ -4,7 +4,7 @@
 
 use super::digest::{group_line, Tally};
 use super::forms::with_form;
-use archive::{plan, PLAN_TEXT};
+use hmsr::{plan, PLAN_TEXT};
 
 /// "For input bytes 4 1 3 2 0 1 2 3".
 const SAMPLE: [u8; 8] = [4, 1, 3, 2, 0, 1, 2, 3];

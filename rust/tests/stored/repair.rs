@@ -3,7 +3,7 @@
 
 use super::digest::{line, mixed, mixed_all, number};
 use super::trial::{nodes_of, Role, Trial};
-use archive::Shape;
+use hmsr::Shape;
 
 /// Larger shapes: n, k, h, L, how many random repairs, and whether the archive is a codeword.
 const LARGE: [(usize, usize, usize, usize, usize, bool); 39] = [

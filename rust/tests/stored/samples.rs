@@ -1,7 +1,7 @@
 //! The samples of document 01: each call's answer and what it left in its buffers, a line for each.
 
 use super::digest::{line, number};
-use archive::{unpack, Refusal, Shape};
+use hmsr::{unpack, Refusal, Shape};
 
 /// "n=3, k=1, L=1".
 const TINY: Shape = Shape { nodes: 3, data: 1, layers: 1 };

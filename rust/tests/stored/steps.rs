@@ -3,7 +3,7 @@
 
 use super::digest::{line, mixed_all, number};
 use super::trial::{nodes_of, Role, Trial};
-use archive::Refusal;
+use hmsr::Refusal;
 
 /// n, k, h, L, and whether the archive is a codeword.
 const CASES: [(usize, usize, usize, usize, bool); 24] = [

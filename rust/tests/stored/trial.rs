@@ -1,7 +1,7 @@
 //! What the tests of repairs share: random archives, codewords or not, and the roles of their nodes.
 
 use super::digest::{number, numbers, random_symbols};
-use archive::Shape;
+use hmsr::Shape;
 
 /// A shape, how many nodes are dead, and whether the archive is a codeword or any symbols.
 #[derive(Clone, Copy)]

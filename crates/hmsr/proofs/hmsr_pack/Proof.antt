@@ -1,11 +1,11 @@
--- `archive::archive_pack` meets its contract: a refusal's number, or 256 and the card's length. Assumes nothing.
+-- `hmsr::hmsr_pack` meets its contract: a refusal's number, or 256 and the card's length. Assumes nothing.
 use mathlib.Core.Path.{sym, ap, _∙_}
 use native.Mathlib.Omega.{arith}
 use borrow.Author.Needs.{needs}
 use Rattle.returned.specs.Promises.{packReturned}
 use Rattle.returned.proofs.Cards.{card-short}
-use Rattle.archive.proofs.archive_pack.Statement.{statement}
-use Rattle.archive.proofs.archive_pack.Tie as tie
+use Rattle.hmsr.proofs.hmsr_pack.Statement.{statement}
+use Rattle.hmsr.proofs.hmsr_pack.Tie as tie
 
 add-result : tie.Need-add-result
 add-result c = omega (arith, card-short _ _ _ _ _ _ (c .before .before .before .before .before .pack .ensures) (c .before .long .given .1))
@@ -17,8 +17,8 @@ returns c =
 returns-2 : tie.Need-returns-2
 returns-2 c = record { answer = _; kept = c .before .before .before .before .before .pack .ensures; returned = sym (ap packReturned (c .before .long .given .1)) }
 
-pub archive-pack-spec : {M : Type 1} → statement M
-archive-pack-spec =
+pub hmsr-pack-spec : {M : Type 1} → statement M
+hmsr-pack-spec =
     tie.close
     (tie.spec
     (λ c κs. search needs)

@@ -24,7 +24,7 @@ const FIRST_FOUND: usize = 256;
 
 // The archive of a transcript.
 #[no_mangle]
-pub extern "C" fn archive_write(
+pub extern "C" fn hmsr_write(
     n: usize,
     k: usize,
     layers: usize,
@@ -39,7 +39,7 @@ pub extern "C" fn archive_write(
 
 // The check of all n nodes: 0 sound, a refusal's number, or the number of the first unmet equation behind FIRST_FOUND.
 #[no_mangle]
-pub extern "C" fn archive_check(n: usize, k: usize, layers: usize, nodes: &[u16]) -> usize
+pub extern "C" fn hmsr_check(n: usize, k: usize, layers: usize, nodes: &[u16]) -> usize
     ensures { λ r. ⌜ Returned (checkReturned (shapeOf n k layers)) (Checks (shapeOf n k layers) (now (nodes .entry))) r ⌝ }
 {
     let s = Shape { n, k, layers };
@@ -52,7 +52,7 @@ pub extern "C" fn archive_check(n: usize, k: usize, layers: usize, nodes: &[u16]
 
 // All n nodes from any k.
 #[no_mangle]
-pub extern "C" fn archive_restore(
+pub extern "C" fn hmsr_restore(
     n: usize,
     k: usize,
     layers: usize,
@@ -68,7 +68,7 @@ pub extern "C" fn archive_restore(
 
 // The transcript of `length` bytes from any k nodes.
 #[no_mangle]
-pub extern "C" fn archive_open(
+pub extern "C" fn hmsr_open(
     n: usize,
     k: usize,
     layers: usize,
@@ -85,7 +85,7 @@ pub extern "C" fn archive_open(
 
 // A helper's message to a new node.
 #[no_mangle]
-pub extern "C" fn archive_helper_message(
+pub extern "C" fn hmsr_helper_message(
     n: usize,
     k: usize,
     layers: usize,
@@ -104,7 +104,7 @@ pub extern "C" fn archive_helper_message(
 
 // A new node's first step: from the helpers' messages its own pairs and its messages to the others.
 #[no_mangle]
-pub extern "C" fn archive_first_step(
+pub extern "C" fn hmsr_first_step(
     n: usize,
     k: usize,
     layers: usize,
@@ -123,7 +123,7 @@ pub extern "C" fn archive_first_step(
 
 // A new node's second step: from its own pairs and the messages received its N symbols.
 #[no_mangle]
-pub extern "C" fn archive_second_step(
+pub extern "C" fn hmsr_second_step(
     n: usize,
     k: usize,
     layers: usize,
@@ -142,7 +142,7 @@ pub extern "C" fn archive_second_step(
 
 // A whole repair on one archive, every message left on the wire.
 #[no_mangle]
-pub extern "C" fn archive_repair(
+pub extern "C" fn hmsr_repair(
     n: usize,
     k: usize,
     layers: usize,
@@ -159,7 +159,7 @@ pub extern "C" fn archive_repair(
 
 // A node's card: a refusal's number, or the card's length behind FIRST_FOUND.
 #[no_mangle]
-pub extern "C" fn archive_pack(
+pub extern "C" fn hmsr_pack(
     n: usize,
     k: usize,
     layers: usize,
@@ -184,7 +184,7 @@ pub extern "C" fn archive_pack(
 
 // The header and the symbols of a card.
 #[no_mangle]
-pub extern "C" fn archive_unpack(card: &[u8], symbols: &mut [u16], header: &mut [usize]) -> usize
+pub extern "C" fn hmsr_unpack(card: &[u8], symbols: &mut [u16], header: &mut [usize]) -> usize
     ensures { λ r. ⌜ UnpackReturned (now (card .entry)) (now (symbols .entry)) (now (symbols .exit)) (now (header .entry)) (now (header .exit)) r ⌝ }
 {
     let room = unpack_room(header.len(), symbols.len());
@@ -199,7 +199,7 @@ pub extern "C" fn archive_unpack(card: &[u8], symbols: &mut [u16], header: &mut 
 
 // The plan's text for an input: its length, 0 where the text's buffer is too short.
 #[no_mangle]
-pub extern "C" fn archive_plan(input: &[u8], text: &mut [u8]) -> usize
+pub extern "C" fn hmsr_plan(input: &[u8], text: &mut [u8]) -> usize
     ensures { λ r. ⌜ Returned planReturned (Plans (now (input .entry)) (now (text .entry)) (now (text .exit))) r ⌝ }
 {
     match plan::plan(input, text) {

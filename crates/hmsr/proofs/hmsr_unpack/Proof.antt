@@ -1,10 +1,10 @@
--- `archive::archive_unpack` meets its contract: the part of the symbols' buffer comes back in place, and the header's buffer has five numbers. Assumes nothing.
+-- `hmsr::hmsr_unpack` meets its contract: the part of the symbols' buffer comes back in place, and the header's buffer has five numbers. Assumes nothing.
 use mathlib.Core.Path.{sym}
 use borrow.Author.Needs.{needs}
 use lib.Seq.{length-take-le}
 use Rattle.returned.proofs.Cards.{room-within, unpack-refused, header-five, unpack-done}
-use Rattle.archive.proofs.archive_unpack.Statement.{statement}
-use Rattle.archive.proofs.archive_unpack.Tie as tie
+use Rattle.hmsr.proofs.hmsr_unpack.Statement.{statement}
+use Rattle.hmsr.proofs.hmsr_unpack.Tie as tie
 
 slice-relend-prefix-unpack : tie.Need-slice-relend-prefix-unpack
 slice-relend-prefix-unpack c = rw (c .unpack-room .ensures) (room-within _ _)
@@ -28,8 +28,8 @@ returns-2 c =
     unpack-done _ _ _ _ _ (u .before .before .unpack-room .ensures) _ (u .unpack .ensures) _ (c .before .before .before .before .before .read .given .1) _
     (c .before .before .store-header .ensures)
 
-pub archive-unpack-spec : {M : Type 1} → statement M
-archive-unpack-spec =
+pub hmsr-unpack-spec : {M : Type 1} → statement M
+hmsr-unpack-spec =
     tie.close
     (tie.spec
     (λ c κs. search needs)

@@ -1,11 +1,11 @@
--- `archive::archive_check` meets its contract: each answer of the check has its number. Assumes nothing.
+-- `hmsr::hmsr_check` meets its contract: each answer of the check has its number. Assumes nothing.
 use mathlib.Core.Path.{sym, ap, _∙_}
 use Prim.Native.Nat.{_+_}
 use borrow.Author.Needs.{needs}
 use Rattle.returned.specs.Promises.{firstFound, checkReturned}
 use Rattle.returned.proofs.Equations.{unmet-shape}
-use Rattle.archive.proofs.archive_check.Statement.{statement}
-use Rattle.archive.proofs.archive_check.Tie as tie
+use Rattle.hmsr.proofs.hmsr_check.Statement.{statement}
+use Rattle.hmsr.proofs.hmsr_check.Tie as tie
 
 equation-number-requires : tie.Need-equation-number-requires
 equation-number-requires c κs = unmet-shape _ _ _ _ _ _ (c .before .before .before .check .ensures) (c .before .layer .given .1)
@@ -25,8 +25,8 @@ returns-3 c =
       returned = ap (λ e. firstFound + e) (c .equation-number .ensures .0) ∙ sym (ap (checkReturned _) (c .before .before .layer .given .1));
     }
 
-pub archive-check-spec : {M : Type 1} → statement M
-archive-check-spec =
+pub hmsr-check-spec : {M : Type 1} → statement M
+hmsr-check-spec =
     tie.close
     (tie.spec
     (λ c κs. search needs)

@@ -1,0 +1,126 @@
+/* The C interface of the transcript archive: the calls of the static library `libhmsr.a`.
+ *
+ * A transcript is spread over n nodes (drives) so that any k of them give it back. A node has N = layers * 2^n symbols, each 0 to 256
+ * in two bytes; symbol (layer, a) stands at place layer * 2^n + a. The nodes of an archive stand one behind the other: n * N symbols.
+ * Every call that takes n, k and layers takes them in this order.
+ *
+ * A buffer is a pointer and its length in elements. A null pointer is allowed only with length 0. A buffer that a call writes (a
+ * pointer without const) may overlap no other buffer of the call; buffers that it only reads may overlap each other. Lists of nodes
+ * are strictly rising. No call keeps a pointer, allocates memory, or has a state of its own. hmsr_write and hmsr_restore need
+ * less than 48 KB of stack, the other calls a few KB, whatever N is.
+ *
+ * A call returns 0 where it did its work, and otherwise the number of the first cause for which it turned back, except where its
+ * comment says so. Where it turned back, every buffer is as it was.
+ *
+ *   1  n outside 3 to 12, k outside 1 to n-2, or layers outside 1 to 15
+ *   2  a node not below n; a list not strictly rising, or of the wrong count; dead nodes fewer than 1 or more than n-k-1, or dead and
+ *      helpers overlapping; a new node that is not in the dead list, or a helper that is not in the helper list
+ *   3  layers not a multiple of s, where h dead nodes make h+1 = s * 2^m with s odd
+ *   4  a buffer not of the exact length, or, outside cards, a transcript length above k * N
+ *   5  a symbol handed in is above 256 (hmsr_repair looks at the helpers' symbols only)
+ *   6  a card malformed
+ *   7  opening: the symbols are not those of a transcript of that length
+ *   8  solving met a zero divisor (never happens)
+ */
+#ifndef HMSR_H
+#define HMSR_H
+
+#include <stddef.h>
+#include <stdint.h>
+
+#ifdef __cplusplus
+extern "C" {
+#endif
+
+/* The least length of a text buffer of hmsr_plan. */
+#define HMSR_PLAN_TEXT 1339
+
+/* The length of a header buffer of hmsr_unpack: n, k, layers, node, length. */
+#define HMSR_HEADER 5
+
+/* Writes a transcript of at most k * N bytes into n * N symbols. Turns back with 1, 4. */
+size_t hmsr_write(size_t n, size_t k, size_t layers,
+                  const uint8_t *transcript, size_t transcript_length,
+                  uint16_t *nodes, size_t nodes_length);
+
+/* Checks the parity equations of n * N symbols. Returns 0 where all are met; a refusal number (1, 4, 5), below 256; or 256 + e where
+ * equation e is the first that is not met, e = (layer * 2^n + a) * (n-k) + t. */
+size_t hmsr_check(size_t n, size_t k, size_t layers,
+                  const uint16_t *nodes, size_t nodes_length);
+
+/* Restores all n * N symbols from the k * N symbols of k listed nodes. Turns back with 1, 2, 4, 5. */
+size_t hmsr_restore(size_t n, size_t k, size_t layers,
+                    const size_t *list, size_t list_length,
+                    const uint16_t *symbols, size_t symbols_length,
+                    uint16_t *nodes, size_t nodes_length);
+
+/* Opens the transcript of `length` bytes from the k * N symbols of k listed nodes, into a buffer of exactly `length` bytes.
+ * Turns back with 1, 2, 4, 5, 7. */
+size_t hmsr_open(size_t n, size_t k, size_t layers,
+                 const size_t *list, size_t list_length,
+                 const uint16_t *symbols, size_t symbols_length,
+                 size_t length,
+                 uint8_t *transcript, size_t transcript_length);
+
+/* The repair of h dead nodes by k+1 helpers. A message has N/(h+1) symbols. */
+
+/* A helper's message to the dead node `new_node`, from the helper's N symbols. Turns back with 1, 2, 3, 4, 5. */
+size_t hmsr_helper_message(size_t n, size_t k, size_t layers,
+                           const size_t *dead, size_t dead_length,
+                           const size_t *helpers, size_t helpers_length,
+                           size_t helper, size_t new_node,
+                           const uint16_t *symbols, size_t symbols_length,
+                           uint16_t *message, size_t message_length);
+
+/* The first step of `new_node`: from the k+1 helpers' messages (helpers rising) its own pairs, 2 * N/(h+1) symbols, and its messages of
+ * sums to the h-1 other dead nodes (rising), (h-1) * N/(h+1) symbols. Turns back with 1, 2, 3, 4, 5. */
+size_t hmsr_first_step(size_t n, size_t k, size_t layers,
+                       const size_t *dead, size_t dead_length,
+                       const size_t *helpers, size_t helpers_length,
+                       size_t new_node,
+                       const uint16_t *messages, size_t messages_length,
+                       uint16_t *pairs, size_t pairs_length,
+                       uint16_t *sums, size_t sums_length);
+
+/* The second step of `new_node`: from its own pairs and the h-1 messages of sums that it received (senders rising) its N symbols.
+ * Turns back with 1, 2, 3, 4, 5. */
+size_t hmsr_second_step(size_t n, size_t k, size_t layers,
+                        const size_t *dead, size_t dead_length,
+                        const size_t *helpers, size_t helpers_length,
+                        size_t new_node,
+                        const uint16_t *pairs, size_t pairs_length,
+                        const uint16_t *received, size_t received_length,
+                        uint16_t *symbols, size_t symbols_length);
+
+/* A whole repair in n * N symbols: the dead nodes are written and never read, all others stay as they are. Every message is left in the
+ * wire, h * (k+h) * N/(h+1) symbols, in the plan's order. Turns back with 1, 2, 3, 4, 5. */
+size_t hmsr_repair(size_t n, size_t k, size_t layers,
+                   const size_t *dead, size_t dead_length,
+                   const size_t *helpers, size_t helpers_length,
+                   uint16_t *nodes, size_t nodes_length,
+                   uint16_t *wire, size_t wire_length);
+
+/* Packs the N symbols of a node into a card, in the front of a buffer of 15 + 2 * N bytes; `length` is the transcript's. Returns a
+ * refusal number (1, 2, 6 for a length above k * N, 4, 5, judged in this order), below 256; or 256 + the card's length. Bytes behind the
+ * card keep their values. */
+size_t hmsr_pack(size_t n, size_t k, size_t layers, size_t node, size_t length,
+                 const uint16_t *symbols, size_t symbols_length,
+                 uint8_t *card, size_t card_length);
+
+/* Unpacks a card into N symbols and a header of HMSR_HEADER numbers: n, k, layers, node, transcript length. A header buffer of
+ * another length is judged with the symbols' buffer (4). Judged in this order: the form of the five numbers (6), 1, 2, the length against
+ * k * N (6), 4, each symbol's form (6) then value (5), bytes left over (6). */
+size_t hmsr_unpack(const uint8_t *card, size_t card_length,
+                   uint16_t *symbols, size_t symbols_length,
+                   size_t *header, size_t header_length);
+
+/* Writes what the plan program prints for an input, a refusal's line too, into the front of a text buffer of at least HMSR_PLAN_TEXT
+ * bytes, and returns the text's length. Bytes behind the text keep their values. A shorter text buffer returns 0 and stays as it was. */
+size_t hmsr_plan(const uint8_t *input, size_t input_length,
+                 uint8_t *text, size_t text_length);
+
+#ifdef __cplusplus
+}
+#endif
+
+#endif
