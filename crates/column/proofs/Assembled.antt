@@ -6,13 +6,15 @@ use native.Mathlib.Nat.{mod-lt, mod-eq-of-lt, pow-zero, pow-succ'}
 use native.Mathlib.Omega.{arith}
 use lib.ListN.{length, getD, take, length-take}
 use lib.Seq.{getD-take}
+use Rattle.lists.specs.Lists.{element}
 use Rattle.lists.specs.Sums.{sum}
 use Rattle.lists.proofs.Sums.{sum-ext}
 use Rattle.field.specs.Residues.{Prime, minus, solution}
 use Rattle.field.proofs.Fields.{pos}
 use Rattle.field.proofs.Bridge.{r as residue}
+use Rattle.inverting.specs.Inverses.{Pivots}
 use Rattle.column.specs.Column.{Points}
-use Rattle.column.specs.Solving.{mostEntries, element, cell, powerOf, less, eliminated, differences, term, Vandermonde, Meets, Pivots, Substituted}
+use Rattle.column.specs.Solving.{mostEntries, cell, powerOf, less, eliminated, differences, term, Vandermonde, Meets, Substituted}
 use Rattle.column.specs.declared.Outcome.{Outcome}
 use Rattle.column.specs.declared.Outcome.the-variants.{Solved, ZeroDivisor}
 use Rattle.column.specs.declared.Solution.{Solution}

@@ -5,7 +5,7 @@ use mathlib.Core.List.{List, map}
 use Prim.Native.Nat.{ℕ, _+_, _-_, _*_, _%_, _^_, _<_}
 use native.Mathlib.Omega.{arith}
 use lib.ListN.{length, getD, take, length-map}
-use Rattle.lists.specs.Lists.{member, others, rising}
+use Rattle.lists.specs.Lists.{element, member, others, rising}
 use Rattle.lists.specs.Sums.{sum}
 use Rattle.lists.proofs.Tables.{map-at}
 use Rattle.lists.proofs.Sums.{sum-ext}
@@ -14,7 +14,7 @@ use Rattle.lists.proofs.Others.{others-rise, others-length, others-at, others-a
 use Rattle.field.specs.Residues.{minus, solution}
 use Rattle.field.proofs.Bridge.{minus-mod, solution-ext}
 use Rattle.column.specs.Column.{parity, listedSum, missing, completed}
-use Rattle.column.specs.Solving.{element, cell, powerOf, Vandermonde, Solves, Known, Missing, Scattered, Completes}
+use Rattle.column.specs.Solving.{cell, powerOf, Vandermonde, Solves, Known, Missing, Scattered, Completes}
 use Rattle.column.specs.declared.Outcome.the-variants.{Solved}
 use Rattle.column.specs.declared.Solution.{Solution}
 use Rattle.column.proofs.Solved.{points-picked}

@@ -7,6 +7,7 @@ use native.Mathlib.Nat.{add-suc, suc-add, add-zero}
 use native.Mathlib.Numerals.{add-one}
 use native.Mathlib.Omega.{arith}
 use lib.ListN.{length, getD, length-map}
+use Rattle.lists.specs.Lists.{element}
 use Rattle.lists.specs.Sums.{sum}
 use Rattle.lists.proofs.Sums.{sum-ext, sum-first}
 use Rattle.lists.proofs.Members.{Rises, rises-at, rises-distinct}
@@ -19,7 +20,7 @@ use Rattle.field.proofs.Fields.{pos, R}
 use Rattle.field.proofs.Vandermonde.{moment, moment-nil, moment-cons, Apart, Distinct, unique}
 use Rattle.field.proofs.Bridge.{r as residue, K as field, res-inj, small-same, minus-is, solution-is, solution-length, solution-small}
 use Rattle.column.specs.Column.{Points}
-use Rattle.column.specs.Solving.{element, powerOf, less, eliminated, differences}
+use Rattle.column.specs.Solving.{powerOf, less, eliminated, differences}
 use Rattle.column.proofs.Elimination.{from, from-none, from-more, from-ext, rest, rest-none, differences as fieldDifferences, differences-none, differences-more, rest-powers, differences-nonzero, met}
 
 -- some of the points, at rising places

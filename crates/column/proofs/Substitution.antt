@@ -8,6 +8,7 @@ use native.Mathlib.Decide.{ℕ-discrete}
 use native.Mathlib.Omega.{arith}
 use lib.ListN.{length, getD, set}
 use lib.Seq.{getD-set-same, getD-set-other}
+use Rattle.lists.specs.Lists.{element}
 use Rattle.lists.specs.Sums.{sum}
 use Rattle.lists.proofs.Sums.{sum-ext, sum-first}
 use Rattle.field.specs.Residues.{Prime, minus}
@@ -15,7 +16,7 @@ use Rattle.field.proofs.Ring.{Ring, ring}
 use Rattle.field.proofs.Residues.{Residue, res, val-res, res-add, res-mul, res-mod, one-is}
 use Rattle.field.proofs.Fields.{pos, R}
 use Rattle.field.proofs.Bridge.{r as residue, minus-is}
-use Rattle.column.specs.Solving.{element, cell, rowOf, term, Meets}
+use Rattle.column.specs.Solving.{cell, rowOf, term, Meets}
 
 module _ (q : ℕ) (prime : Prime q) where
   open Ring (R q prime) using (𝟙, _⊕_, _⊖_, _⊗_)

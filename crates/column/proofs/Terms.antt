@@ -7,11 +7,12 @@ use native.Mathlib.Numerals.{add-one}
 use native.Mathlib.Omega.{arith}
 use lib.ListN.{length, getD, take, drop, length-append, length-drop}
 use lib.Seq.{getD-take, take-at, length-take-le}
+use Rattle.lists.specs.Lists.{element}
 use Rattle.lists.specs.Sums.{sum}
 use Rattle.lists.proofs.Sums.{sum-ext, sum-mod}
 use Rattle.field.proofs.Residues.{mod-mul-mod}
 use Rattle.column.specs.Column.{parity}
-use Rattle.column.specs.Solving.{element, Advanced}
+use Rattle.column.specs.Solving.{Advanced}
 
 turned : (a b c : ℕ) → a * b * c ≡ a * c * b
 turned a b c = omega arith

@@ -1,13 +1,13 @@
 -- Solving r equations in r unknowns: what is promised of `solve` and `complete`, and of the steps inside them.
 use mathlib.Core.Path.{_≡_}
-use mathlib.Core.Logic.{_≢_}
 use mathlib.Core.Bool.{true, false}
 use mathlib.Core.List.{List, []}
 use Prim.Native.Nat.{ℕ, zero, suc, _+_, _*_, _-_, _%_, _^_, _<_, _≤_}
 use lib.ListN.{length, getD, take}
-use Rattle.lists.specs.Lists.{rising, member}
+use Rattle.lists.specs.Lists.{element, rising, member}
 use Rattle.lists.specs.Sums.{sum}
 use Rattle.field.specs.Residues.{Prime, minus, solution}
+use Rattle.inverting.specs.Inverses.{Pivots}
 use Rattle.column.specs.declared.Outcome.{Outcome}
 use Rattle.column.specs.declared.Outcome.the-variants.{Solved, ZeroDivisor}
 use Rattle.column.specs.declared.Solution.{Solution}
@@ -16,10 +16,6 @@ use Rattle.column.specs.Column.{Points, missing, completed}
 -- the most entries of a column: n + 1 of a first step
 abbrev pub mostEntries : ℕ
 mostEntries = 13
-
--- element t of a list
-abbrev pub element : List ℕ → ℕ → ℕ
-element xs t = getD xs t 0
 
 -- element t of row j of an array of arrays
 abbrev pub cell : List (List ℕ) → ℕ → ℕ → ℕ
@@ -81,29 +77,6 @@ term row values start d = element row (start + d) * element values (start + d)
 -- the factors of equation i
 abbrev pub rowOf : List (List ℕ) → ℕ → List ℕ
 rowOf rows i = getD rows i []
-
--- the product of the first i pivots
-unfoldable pub product : ℕ → (ℕ → ℕ) → ℕ → ℕ
-product q pivots zero = 1
-product q pivots (suc i) = (product q pivots i * pivots i) % q
-
--- a prime modulus, and no pivot that is 0
-pub record Pivots (q r : ℕ) (pivots : ℕ → ℕ) : Type 0 where
-  pub prime : Prime q
-  pub small : (i : ℕ) → i < r → pivots i < q
-  pub nonzero : (i : ℕ) → i < r → pivots i ≢ 0
-
--- the product of the elements in front of each of a row's first m elements, and that of all m
-pub record Products (q : ℕ) (row : List ℕ) (m : ℕ) (before after : List ℕ) (all : ℕ) : Type 0 where
-  pub long : length after ≡ length before
-  pub whole : all ≡ product q (element row) m
-  pub each : (i : ℕ) → i < m → element after i ≡ product q (element row) i
-
--- a row's elements from i on inverted, where the modulus is a prime and none of them is 0
-pub record Inverted (q : ℕ) (row : List ℕ) (i : ℕ) (out : List ℕ) : Type 0 where
-  pub long : length out ≡ length row
-  pub small : (k : ℕ) → i ≤ k → k < length row → element out k < q
-  pub one : Pivots q (length row) (element row) → (k : ℕ) → i ≤ k → k < length row → (element row k * element out k) % q ≡ 1
 
 -- the pivots of a triangle stand on its diagonal
 abbrev pub pivot : List (List ℕ) → ℕ → ℕ

@@ -10,10 +10,10 @@ ghost use mathlib.Core.Path.{_≡_};
 ghost use Prim.Native.Nat.{ℕ, _-_, _<_, _≤_};
 ghost use mathlib.Core.Bool.{true};
 ghost use lib.ListN.{length, take};
-ghost use Rattle.lists.specs.Lists.{others, rising};
+ghost use Rattle.lists.specs.Lists.{element, others, rising};
 ghost use Rattle.field.specs.Residues.{minus};
 ghost use Rattle.column.specs.Column.{parity};
-ghost use Rattle.column.specs.Solving.{mostEntries, element, cell, powerOf, Scattered, Known, Missing, Completes};
+ghost use Rattle.column.specs.Solving.{mostEntries, cell, powerOf, Scattered, Known, Missing, Completes};
 
 // The entries below m that a rising list lacks, rising.
 fn others(m: usize, list: &[usize]) -> [usize; ENTRIES]

@@ -6,11 +6,11 @@ use Prim.Native.Nat.{ℕ, _≤_, _<_}
 use native.Mathlib.Omega.{arith}
 use lib.ListN.{length, getD, take}
 use lib.Seq.{getD-take, length-take-le}
-use Rattle.lists.specs.Lists.{rising}
+use Rattle.lists.specs.Lists.{element, rising}
 use Rattle.lists.proofs.Tables.{tabulate-length}
 use Rattle.lists.proofs.Others.{rising-fits}
 use Rattle.column.specs.Column.{completed}
-use Rattle.column.specs.Solving.{element, Known}
+use Rattle.column.specs.Solving.{Known}
 use Rattle.column.proofs.Column.{completed-ext}
 use Rattle.shape.specs.Shape.{mostNodes}
 use Rattle.code.specs.Code.{narrow, points, GoodCode}

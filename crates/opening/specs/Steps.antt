@@ -4,9 +4,8 @@ use mathlib.Core.Bool.{true, false}
 use mathlib.Core.List.{List}
 use Prim.Native.Nat.{ℕ, _*_, _<_}
 use lib.ListN.{length, getD, take}
-use Rattle.lists.specs.Lists.{rising}
+use Rattle.lists.specs.Lists.{element, rising}
 use Rattle.column.specs.Column.{completed}
-use Rattle.column.specs.Solving.{element}
 use Rattle.column.specs.declared.Outcome.the-variants.{Solved}
 use Rattle.shape.specs.declared.Shape.{Shape}
 use Rattle.shape.specs.Shape.{mostNodes, size}

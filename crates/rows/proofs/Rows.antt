@@ -8,11 +8,12 @@ use native.Mathlib.Nat.{mod-eq-of-lt}
 use native.Mathlib.Omega.{arith}
 use lib.ListN.{length, getD, take, drop, set, length-set, replicate, length-replicate, getD-replicate, List·getD-eq-default, List·getD-append}
 use lib.Seq.{getD-set-same, getD-set-other, getD-append-add, getD-drop}
+use Rattle.lists.specs.Lists.{element}
 use Rattle.lists.proofs.Tests.{below-or-not}
 use Rattle.field.specs.Residues.{minus}
 use Rattle.field.proofs.Residues.{mod-mul-mod, mul-mod-mod}
-use Rattle.column.specs.Solving.{element, Pivots, Inverted}
-use Rattle.column.proofs.Pivots.{inverted-low, inverted-front}
+use Rattle.inverting.specs.Inverses.{Pivots, Inverted}
+use Rattle.inverting.proofs.Inverses.{inverted-low, inverted-front}
 use Rattle.rows.specs.Rows.{mostPlaces, Low, Stored}
 
 pub stored-none : (at : ℕ) (f : ℕ → ℕ) (before : List ℕ) → Stored at 0 f before before

@@ -1,9 +1,10 @@
 // Rows: what stands at consecutive places, worked on together, one loop for each step, which a compiler turns into vector instructions.
-use column::invert;
+use inverting::invert;
 ghost use mathlib.Core.Path.{_≡_};
 ghost use Prim.Native.Nat.{ℕ, _+_, _*_, _%_, _<_, _≤_};
 ghost use lib.ListN.{length, getD};
-ghost use Rattle.column.specs.Solving.{element, Pivots};
+ghost use Rattle.lists.specs.Lists.{element};
+ghost use Rattle.inverting.specs.Inverses.{Pivots};
 ghost use Rattle.rows.specs.Rows.{mostPlaces, mostModulus, Low, Stored, scaled, quotient, added, remainder, copied};
 
 // The most places of a row.

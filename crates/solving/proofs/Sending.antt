@@ -8,13 +8,12 @@ use native.Mathlib.Decide.{ℕ-discrete}
 use native.Mathlib.Omega.{arith}
 use lib.ListN.{length, getD, set, length-append}
 use lib.Seq.{ext-getD}
-use Rattle.lists.specs.Lists.{flat}
+use Rattle.lists.specs.Lists.{element, flat}
 use Rattle.lists.proofs.Tests.{cond-below, cond-beyond, below-or-not}
 use Rattle.lists.proofs.Flats.{flat-length, flat-at, flat-more, flat-none}
 use Rattle.lists.proofs.Places.{place-of}
 use Rattle.lists.proofs.Tables.{tabulate-at}
 use Rattle.lists.proofs.Buffers.{onto, onto-none, onto-more, onto-end}
-use Rattle.column.specs.Solving.{element}
 use Rattle.shape.specs.declared.Shape.{Shape}
 use Rattle.code.specs.Code.{narrow}
 use Rattle.classes.specs.Classes.{node, messageSize}

@@ -6,12 +6,12 @@ use Prim.Native.Nat.{ℕ, suc, _+_, _*_, _-_, _≤_, _<_}
 use native.Mathlib.Omega.{arith}
 use lib.ListN.{length, getD, take, length-append, List·getD-append}
 use lib.Seq.{getD-take, length-take-le}
-use Rattle.lists.specs.Lists.{rising}
+use Rattle.lists.specs.Lists.{element, rising}
 use Rattle.lists.proofs.Members.{rising-more}
 use Rattle.lists.proofs.Others.{rising-fits}
 use Rattle.column.specs.declared.Outcome.{Outcome}
 use Rattle.column.specs.Column.{completed, Points}
-use Rattle.column.specs.Solving.{mostEntries, element, Known, Completes}
+use Rattle.column.specs.Solving.{mostEntries, Known, Completes}
 use Rattle.column.proofs.Column.{completed-is, completed-ext}
 use Rattle.shape.specs.Shape.{mostNodes}
 use Rattle.shape.specs.declared.Shape.{Shape}

@@ -4,11 +4,11 @@ use mathlib.Core.Bool.{Bool, true, cond}
 use mathlib.Core.List.{List}
 use Prim.Native.Nat.{ℕ, _+_, _*_, _-_, _<_}
 use lib.ListN.{length, getD, take}
-use Rattle.lists.specs.Lists.{rising}
+use Rattle.lists.specs.Lists.{element, rising}
 use Rattle.column.specs.declared.Outcome.{Outcome}
 use Rattle.column.specs.declared.Outcome.the-variants.{Solved}
 use Rattle.column.specs.declared.Solution.{Solution}
-use Rattle.column.specs.Solving.{mostEntries, element}
+use Rattle.column.specs.Solving.{mostEntries}
 use Rattle.shape.specs.declared.Shape.{Shape}
 use Rattle.code.specs.Code.{narrow, morePoints}
 use Rattle.classes.specs.Classes.{node, messageSize}

@@ -13,10 +13,11 @@ use sums::first_places;
 ghost use mathlib.Core.Path.{_≡_};
 ghost use Prim.Native.Nat.{ℕ, _+_, _-_, _*_, _%_, _^_, _≤_, _<_};
 ghost use lib.ListN.{length, getD, set};
+ghost use Rattle.lists.specs.Lists.{element};
 ghost use Rattle.shape.specs.Shape.{mostNodes};
 ghost use Rattle.classes.specs.Classes.{node, spotAt, messageSize};
 ghost use Rattle.classes.specs.Layout.{Ready};
-ghost use Rattle.column.specs.Solving.{mostEntries, element};
+ghost use Rattle.column.specs.Solving.{mostEntries};
 ghost use Rattle.solving.specs.Solving.{Told, MorePoints, SolvedSum, slotOf, slots, HandedOut, Helped, FirstDone};
 ghost use Rattle.code.specs.Code.{narrow};
 

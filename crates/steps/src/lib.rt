@@ -11,13 +11,13 @@ use sums::sum_at;
 ghost use mathlib.Core.Path.{_≡_};
 ghost use Prim.Native.Nat.{_+_, _-_, _*_, _<_};
 ghost use lib.ListN.{length};
+ghost use Rattle.lists.specs.Lists.{element};
 ghost use Rattle.shape.specs.Shape.{size};
 ghost use Rattle.classes.specs.Classes.{messageSize};
 ghost use Rattle.classes.specs.Steps.{helperMessage, place};
 ghost use Rattle.classes.specs.Layout.{Ready};
 ghost use Rattle.steps.specs.Storing.{Paired, sentBy, Crossed, Begun, Recovers};
 ghost use Rattle.field.specs.Residues.{minus};
-ghost use Rattle.column.specs.Solving.{element};
 ghost use Rattle.code.specs.Code.{narrow};
 
 // The message to rank u of a helper with these N symbols; x is the number of the sum at e.

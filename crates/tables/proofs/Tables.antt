@@ -10,10 +10,10 @@ use native.Mathlib.Omega.{arith}
 use lib.Arith.{digits-lt}
 use lib.Dec.{eqb}
 use lib.ListN.{length, getD, replicate, length-replicate, getD-replicate}
-use Rattle.lists.specs.Lists.{member, rising}
+use Rattle.lists.specs.Lists.{element, member, rising}
 use Rattle.lists.proofs.Members.{rising-below}
 use Rattle.field.specs.Residues.{Prime, minus, inverse}
-use Rattle.column.specs.Solving.{element, Pivots}
+use Rattle.inverting.specs.Inverses.{Pivots}
 use Rattle.shape.specs.Shape.{mostNodes}
 use Rattle.code.specs.Code.{narrow, point, points, GoodCode}
 use Rattle.code.proofs.NodePoints.{good-fewer, points-length, points-at, points-good}

@@ -5,8 +5,8 @@ use mathlib.Core.List.{List}
 use Prim.Native.Nat.{ℕ, _+_, _-_, _≤_, _<_}
 use native.Mathlib.Omega.{arith}
 use lib.ListN.{length, getD, List·getD-eq-default}
+use Rattle.lists.specs.Lists.{element}
 use Rattle.lists.proofs.Tests.{below-or-not}
-use Rattle.column.specs.Solving.{element}
 use Rattle.rows.specs.Rows.{Stored}
 use Rattle.writing.specs.Steps.{nothing, DataStored}
 

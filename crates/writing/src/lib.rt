@@ -9,7 +9,7 @@ use shape::size;
 ghost use mathlib.Core.Path.{_≡_};
 ghost use Prim.Native.Nat.{_+_, _≤_};
 ghost use lib.ListN.{length};
-ghost use Rattle.column.specs.Solving.{element};
+ghost use Rattle.lists.specs.Lists.{element};
 ghost use Rattle.rows.specs.Rows.{Stored};
 ghost use Rattle.shape.specs.Refusals.{answerNumber};
 ghost use Rattle.code.specs.Code.{narrow};

@@ -6,9 +6,9 @@ use borrow.Author.Needs.{needs}
 use lib.Arith.{digits-lt}
 use lib.ListN.{length}
 use lib.Seq.{length-take-le}
+use Rattle.lists.specs.Lists.{element}
 use Rattle.shape.specs.declared.Shape.{Shape}
 use Rattle.shape.specs.Shape.{mostNodes, size}
-use Rattle.column.specs.Solving.{element}
 use Rattle.checking.specs.declared.Checked.the-variants.{Sound}
 use Rattle.code.specs.Code.{narrow}
 use Rattle.code.specs.Archive.{equation}

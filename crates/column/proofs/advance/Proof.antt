@@ -5,10 +5,11 @@ use native.Mathlib.Numerals.{add-one}
 use native.Mathlib.Omega.{arith}
 use lib.ListN.{length, length-set}
 use lib.Seq.{getD-set-other}
+use Rattle.lists.specs.Lists.{element}
 use Rattle.lists.specs.Sums.{sum}
 use Rattle.lists.proofs.Sums.{sum-suc}
 use Rattle.lists.proofs.Stores.{stored-more}
-use Rattle.column.specs.Solving.{mostEntries, element}
+use Rattle.column.specs.Solving.{mostEntries}
 use borrow.Author.Needs.{needs}
 use Rattle.column.proofs.advance.Statement.{statement}
 use Rattle.column.proofs.advance.Tie as tie

@@ -4,8 +4,9 @@ use mathlib.Core.List.{List}
 use Prim.Native.Nat.{ℕ, _+_, _-_, _≤_, _<_}
 use native.Mathlib.Omega.{arith}
 use lib.ListN.{length, length-set}
+use Rattle.lists.specs.Lists.{element}
 use Rattle.lists.proofs.Stores.{stored-more}
-use Rattle.column.specs.Solving.{mostEntries, element, less, eliminated}
+use Rattle.column.specs.Solving.{mostEntries, less, eliminated}
 use Rattle.column.proofs.Elimination.{less-ext, eliminated-more}
 use borrow.Author.Needs.{needs}
 use Rattle.column.proofs.eliminated.Statement.{statement}

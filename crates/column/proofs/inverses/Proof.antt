@@ -5,7 +5,7 @@ use native.Mathlib.Omega.{arith}
 use borrow.Author.Needs.{needs}
 use lib.ListN.{length, length-append, length-drop}
 use lib.Seq.{length-take-le}
-use Rattle.column.proofs.Pivots.{inverted-length, inverted-front}
+use Rattle.inverting.proofs.Inverses.{inverted-length, inverted-front}
 use Rattle.column.proofs.inverses.Statement.{statement}
 use Rattle.column.proofs.inverses.Tie as tie
 

@@ -4,10 +4,11 @@ use Prim.Native.Nat.{ℕ, _+_, _-_, _≤_, _<_}
 use native.Mathlib.Omega.{arith}
 use borrow.Author.Needs.{needs}
 use lib.ListN.{length, length-set}
+use Rattle.lists.specs.Lists.{element}
 use Rattle.lists.proofs.Stores.{stored-more}
 use Rattle.field.specs.Residues.{minus}
 use Rattle.field.proofs.Bridge.{minus-mod}
-use Rattle.column.specs.Solving.{element, less, mostEntries}
+use Rattle.column.specs.Solving.{less, mostEntries}
 use Rattle.column.proofs.less.Statement.{statement}
 use Rattle.column.proofs.less.Tie as tie
 

@@ -3,9 +3,10 @@ use mathlib.Core.Path.{_≡_, ap, _∙_}
 use Prim.Native.Nat.{ℕ, _-_, _*_, _%_, _≤_, _<_}
 use native.Mathlib.Omega.{arith}
 use lib.ListN.{length, length-set}
+use Rattle.lists.specs.Lists.{element}
 use Rattle.lists.proofs.Stores.{stored-more}
 use Rattle.field.specs.Residues.{minus}
-use Rattle.column.specs.Solving.{mostEntries, element}
+use Rattle.column.specs.Solving.{mostEntries}
 use borrow.Author.Needs.{needs}
 use Rattle.column.proofs.next_row.Statement.{statement}
 use Rattle.column.proofs.next_row.Tie as tie

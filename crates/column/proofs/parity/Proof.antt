@@ -5,9 +5,10 @@ use Prim.Native.Nat.{ℕ, _-_, _*_, _%_, _^_, _≤_, _<_}
 use native.Mathlib.Omega.{arith}
 use lib.ListN.{length, length-set}
 use lib.Seq.{length-take-le}
+use Rattle.lists.specs.Lists.{element}
 use Rattle.lists.proofs.Stores.{stored-more}
 use Rattle.column.specs.Column.{parity}
-use Rattle.column.specs.Solving.{mostEntries, element}
+use Rattle.column.specs.Solving.{mostEntries}
 use Rattle.column.proofs.Terms.{terms-first, terms-more, terms-total, terms-long, terms-next, terms-added}
 use borrow.Author.Needs.{needs}
 use Rattle.column.proofs.parity.Statement.{statement}

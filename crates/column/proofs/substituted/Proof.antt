@@ -4,10 +4,12 @@ use mathlib.Core.List.{List}
 use Prim.Native.Nat.{ℕ, _-_, _*_, _%_, _≤_, _<_}
 use native.Mathlib.Omega.{arith}
 use lib.ListN.{length, length-set}
+use Rattle.lists.specs.Lists.{element}
 use Rattle.field.specs.Residues.{minus}
-use Rattle.column.specs.Solving.{mostEntries, element, pivot, Meets, Pivots}
+use Rattle.inverting.specs.Inverses.{Pivots}
+use Rattle.column.specs.Solving.{mostEntries, pivot, Meets}
 use Rattle.column.specs.declared.Outcome.the-variants.{Solved, ZeroDivisor}
-use Rattle.column.proofs.Pivots.{pivots-ext}
+use Rattle.inverting.proofs.Inverses.{pivots-ext}
 use Rattle.column.proofs.Substitution.{divided-back, value-more}
 use borrow.Author.Needs.{needs}
 use Rattle.column.proofs.substituted.Statement.{statement}

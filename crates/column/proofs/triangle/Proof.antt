@@ -4,8 +4,9 @@ use mathlib.Core.List.{List, []}
 use Prim.Native.Nat.{ℕ, _-_, _≤_, _<_}
 use native.Mathlib.Omega.{arith}
 use lib.ListN.{length, getD, length-set, replicate, getD-replicate}
+use Rattle.lists.specs.Lists.{element}
 use Rattle.lists.proofs.Stores.{stored-more}
-use Rattle.column.specs.Solving.{mostEntries, element, differences}
+use Rattle.column.specs.Solving.{mostEntries, differences}
 use Rattle.column.proofs.Elimination.{differences-none-at, differences-next}
 use borrow.Author.Needs.{needs}
 use Rattle.column.proofs.triangle.Statement.{statement}

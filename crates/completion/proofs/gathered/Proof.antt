@@ -3,8 +3,9 @@ use mathlib.Core.Path.{_≡_, refl}
 use Prim.Native.Nat.{ℕ, _-_, _≤_, _<_}
 use native.Mathlib.Omega.{arith}
 use lib.ListN.{length, getD, length-set}
+use Rattle.lists.specs.Lists.{element}
 use Rattle.lists.proofs.Stores.{stored-more}
-use Rattle.column.specs.Solving.{mostEntries, element}
+use Rattle.column.specs.Solving.{mostEntries}
 use Rattle.lists.proofs.Members.{rising-below}
 use Rattle.lists.proofs.Others.{rising-fits}
 use borrow.Author.Needs.{needs}

@@ -6,8 +6,9 @@ use native.Mathlib.Omega.{arith}
 use borrow.Author.Needs.{needs}
 use lib.ListN.{length, take}
 use lib.Seq.{getD-take, length-take-le}
+use Rattle.lists.specs.Lists.{element}
 use Rattle.lists.proofs.Others.{others-length}
-use Rattle.column.specs.Solving.{mostEntries, element}
+use Rattle.column.specs.Solving.{mostEntries}
 use Rattle.column.proofs.Completing.{rest-rising, missing-by}
 use Rattle.completion.proofs.missing.Statement.{statement}
 use Rattle.completion.proofs.missing.Tie as tie

@@ -3,8 +3,9 @@ use mathlib.Core.Path.{_≡_, refl, sym, _∙_}
 use Prim.Native.Nat.{ℕ, _-_, _≤_, _<_}
 use native.Mathlib.Omega.{arith}
 use lib.ListN.{length, length-set}
+use Rattle.lists.specs.Lists.{element}
 use Rattle.lists.proofs.Stores.{stored-more}
-use Rattle.column.specs.Solving.{mostEntries, element, powerOf}
+use Rattle.column.specs.Solving.{mostEntries, powerOf}
 use Rattle.field.proofs.Modular.{power-none, power-more}
 use borrow.Author.Needs.{needs}
 use Rattle.completion.proofs.powers.Statement.{statement}

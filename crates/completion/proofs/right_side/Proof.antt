@@ -4,10 +4,11 @@ use mathlib.Core.List.{List}
 use Prim.Native.Nat.{ℕ, _-_, _≤_, _<_}
 use native.Mathlib.Omega.{arith}
 use lib.ListN.{length, length-set}
+use Rattle.lists.specs.Lists.{element}
 use Rattle.lists.proofs.Stores.{stored-more}
 use Rattle.field.specs.Residues.{minus}
 use Rattle.column.specs.Column.{parity}
-use Rattle.column.specs.Solving.{mostEntries, element}
+use Rattle.column.specs.Solving.{mostEntries}
 use borrow.Author.Needs.{needs}
 use Rattle.completion.proofs.right_side.Statement.{statement}
 use Rattle.completion.proofs.right_side.Tie as tie

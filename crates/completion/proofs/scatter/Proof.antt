@@ -4,10 +4,9 @@ use Prim.Native.Nat.{ℕ, _-_, _≤_, _<_}
 use native.Mathlib.Omega.{arith}
 use lib.ListN.{length, getD, length-set}
 use mathlib.Core.Bool.{false}
-use Rattle.lists.specs.Lists.{member}
+use Rattle.lists.specs.Lists.{element, member}
 use Rattle.lists.proofs.Members.{rising-below}
 use Rattle.lists.proofs.Stores.{listed-more, unlisted-more}
-use Rattle.column.specs.Solving.{element}
 use borrow.Author.Needs.{needs}
 use Rattle.completion.proofs.scatter.Statement.{statement}
 use Rattle.completion.proofs.scatter.Tie as tie

@@ -4,8 +4,9 @@ use mathlib.Core.List.{List, []}
 use Prim.Native.Nat.{ℕ, _-_, _≤_, _<_}
 use native.Mathlib.Omega.{arith}
 use lib.ListN.{length, getD, length-set}
+use Rattle.lists.specs.Lists.{element}
 use Rattle.lists.proofs.Stores.{stored-more}
-use Rattle.column.specs.Solving.{mostEntries, element, powerOf}
+use Rattle.column.specs.Solving.{mostEntries, powerOf}
 use borrow.Author.Needs.{needs}
 use Rattle.completion.proofs.vandermonde.Statement.{statement}
 use Rattle.completion.proofs.vandermonde.Tie as tie

@@ -3,8 +3,8 @@ use mathlib.Core.Path.{_≡_}
 use Prim.Native.Nat.{ℕ, _-_, _≤_, _<_}
 use native.Mathlib.Omega.{arith}
 use lib.ListN.{length, length-set}
+use Rattle.lists.specs.Lists.{element}
 use Rattle.lists.proofs.Stores.{stored-more}
-use Rattle.column.specs.Solving.{element}
 use Rattle.rows.specs.Rows.{mostPlaces}
 use Rattle.patterns.specs.Patterns.{Stands}
 use borrow.Author.Needs.{needs}

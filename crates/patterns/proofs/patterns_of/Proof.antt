@@ -3,7 +3,7 @@ use mathlib.Core.Path.{_≡_, sym, ap, _∙_}
 use Prim.Native.Nat.{ℕ, _+_, _-_, _≤_, _<_}
 use native.Mathlib.Omega.{arith}
 use lib.ListN.{length, getD-replicate}
-use Rattle.column.specs.Solving.{element}
+use Rattle.lists.specs.Lists.{element}
 use Rattle.rows.specs.Rows.{mostPlaces}
 use Rattle.patterns.specs.Patterns.{pattern}
 use Rattle.patterns.proofs.Patterns.{pattern-none, pattern-skip, pattern-low, lengthened-more}

@@ -1,6 +1,6 @@
 -- `patterns::represent` meets its contract. Assumes nothing.
-use Rattle.column.specs.Solving.{element}
 use borrow.Author.Needs.{needs}
+use Rattle.lists.specs.Lists.{element}
 use Rattle.patterns.proofs.represent.Statement.{statement}
 use Rattle.patterns.proofs.represent.Tie as tie
 

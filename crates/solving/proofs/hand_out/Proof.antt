@@ -10,8 +10,8 @@ use borrow.Author.Tests.{eq-eqb, ne-eqb, eqb-false, not-true}
 use lib.Arith.{digits-lt}
 use lib.Dec.{eqb}
 use lib.ListN.{length, getD}
+use Rattle.lists.specs.Lists.{element}
 use Rattle.lists.proofs.Scatters.{Scattered, scattered-none, scattered-skip, scattered-more}
-use Rattle.column.specs.Solving.{element}
 use Rattle.classes.specs.Classes.{node, messageSize}
 use Rattle.solving.specs.Solving.{slotOf}
 use Rattle.classes.proofs.Layouts.{bounded, share-high, node-high}

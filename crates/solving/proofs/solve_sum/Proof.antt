@@ -5,9 +5,9 @@ use native.Mathlib.Omega.{arith}
 use borrow.Author.Needs.{needs}
 use lib.ListN.{length, getD, length-drop}
 use lib.Seq.{length-take-le}
+use Rattle.lists.specs.Lists.{element}
 use Rattle.lists.proofs.Others.{rising-fits}
 use Rattle.code.proofs.Accepted.{narrow-accepted}
-use Rattle.column.specs.Solving.{element}
 use Rattle.classes.specs.Classes.{node, messageSize}
 use Rattle.solving.specs.Solving.{MorePoints}
 use Rattle.classes.proofs.Layouts.{bounded, node-high}

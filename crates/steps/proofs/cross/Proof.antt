@@ -6,11 +6,11 @@ use native.Mathlib.Omega.{arith}
 use borrow.Author.Needs.{needs}
 use borrow.Author.Tests.{not-true, not-false}
 use lib.ListN.{length, getD, length-set}
+use Rattle.lists.specs.Lists.{element}
 use Rattle.shape.specs.declared.Shape.{Shape}
 use Rattle.shape.specs.Shape.{size}
 use Rattle.code.specs.Code.{narrow}
 use Rattle.field.specs.Residues.{minus}
-use Rattle.column.specs.Solving.{element}
 use Rattle.classes.specs.Classes.{sumAt, placeAt}
 use Rattle.steps.specs.Storing.{sumSymbol}
 use Rattle.classes.proofs.Layouts.{share-high, ready-dead}

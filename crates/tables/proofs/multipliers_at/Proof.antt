@@ -2,8 +2,8 @@
 use mathlib.Core.Path.{_≡_, sym, _∙_, subst}
 use Prim.Native.Nat.{_-_, _≤_}
 use native.Mathlib.Omega.{arith}
+use Rattle.lists.specs.Lists.{element}
 use Rattle.tables.specs.Tables.{TableOf}
-use Rattle.column.specs.Solving.{element}
 use Rattle.tables.proofs.Tables.{table-none, table-skip, table-more}
 use borrow.Author.Needs.{needs}
 use Rattle.tables.proofs.multipliers_at.Statement.{statement}

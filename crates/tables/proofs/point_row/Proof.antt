@@ -2,10 +2,10 @@
 use mathlib.Core.Path.{_≡_}
 use Prim.Native.Nat.{_-_, _≤_}
 use native.Mathlib.Omega.{arith}
+use Rattle.lists.specs.Lists.{element}
 use Rattle.rows.specs.Rows.{Stored}
 use Rattle.rows.proofs.Rows.{stored-none, stored-more}
 use Rattle.tables.specs.Tables.{pointOf}
-use Rattle.column.specs.Solving.{element}
 use borrow.Author.Needs.{needs}
 use Rattle.tables.proofs.point_row.Statement.{statement}
 use Rattle.tables.proofs.point_row.Tie as tie

@@ -2,8 +2,8 @@
 use mathlib.Core.Path.{_≡_}
 use Prim.Native.Nat.{_-_, _≤_}
 use native.Mathlib.Omega.{arith}
+use Rattle.lists.specs.Lists.{element}
 use Rattle.tables.specs.Tables.{PointRows}
-use Rattle.column.specs.Solving.{element}
 use Rattle.tables.proofs.Tables.{point-rows-none, point-rows-more}
 use borrow.Author.Needs.{needs}
 use Rattle.tables.proofs.point_rows.Statement.{statement}

@@ -5,7 +5,7 @@ use Prim.Native.Nat.{ℕ, _+_, _-_, _*_, _≤_, _<_}
 use native.Mathlib.Omega.{arith}
 use borrow.Author.Needs.{needs}
 use lib.ListN.{length, getD, set, length-take, length-drop}
-use Rattle.column.specs.Solving.{element}
+use Rattle.lists.specs.Lists.{element}
 use Rattle.code.specs.Code.{narrow}
 use Rattle.classes.specs.Classes.{node}
 use Rattle.classes.specs.Steps.{solved}

@@ -4,7 +4,7 @@ use Prim.Native.Nat.{_-_, _≤_}
 use native.Mathlib.Omega.{arith}
 use borrow.Author.Needs.{needs}
 use lib.ListN.{length}
-use Rattle.column.specs.Solving.{element}
+use Rattle.lists.specs.Lists.{element}
 use Rattle.rows.specs.Rows.{Stored}
 use Rattle.rows.proofs.Rows.{stored-none, stored-front}
 use Rattle.writing.proofs.store_transcript.Statement.{statement}

@@ -1,14 +1,15 @@
--- `column::invert` meets its contract: the last element first. Assumes nothing.
+-- `inverting::invert` meets its contract: the last element first. Assumes nothing.
 use mathlib.Core.Path.{_≡_, sym, ap, _∙_}
 use Prim.Native.Nat.{ℕ, _+_, _-_, _*_, _%_, _≤_, _<_}
 use native.Mathlib.Omega.{arith}
 use borrow.Author.Needs.{needs}
 use lib.ListN.{length}
 use lib.Seq.{getD-set-other}
-use Rattle.column.specs.Solving.{element, product, Pivots, Inverted}
-use Rattle.column.proofs.Pivots.{product-small, product-nonzero, inverts-pivot, inverts-rest, inverted-none, inverted-more}
-use Rattle.column.proofs.invert.Statement.{statement}
-use Rattle.column.proofs.invert.Tie as tie
+use Rattle.lists.specs.Lists.{element}
+use Rattle.inverting.specs.Inverses.{product, Pivots, Inverted}
+use Rattle.inverting.proofs.Inverses.{product-small, product-nonzero, inverts-pivot, inverts-rest, inverted-none, inverted-more}
+use Rattle.inverting.proofs.invert.Statement.{statement}
+use Rattle.inverting.proofs.invert.Tie as tie
 
 abbrev Inv-loop : tie.InvT-loop
 Inv-loop q row out₀ rest₀ i₀ out rest i =

@@ -9,13 +9,14 @@ use native.Mathlib.Decide.{ℕ-discrete}
 use native.Mathlib.Omega.{arith}
 use lib.ListN.{length, take, set, length-set, List·getD-append}
 use lib.Seq.{getD-set-same, getD-set-other, getD-take, length-take-le}
+use Rattle.lists.specs.Lists.{element}
 use Rattle.field.specs.Residues.{Prime}
 use Rattle.field.proofs.Ring.{Ring, Field, mul-ne-zero}
 use Rattle.field.proofs.Residues.{res-mul, res-mod, res-zero, mod-mul-mod, mul-mod-mod}
 use Rattle.field.proofs.Fields.{pos, R}
 use Rattle.field.proofs.Bridge.{r as residue, K as field}
 use Rattle.lists.proofs.Stores.{stored-more}
-use Rattle.column.specs.Solving.{element, product, Pivots, Products, Inverted}
+use Rattle.inverting.specs.Inverses.{product, Pivots, Products, Inverted}
 
 -- a product of numbers below a prime that are not 0 is not 0
 nonzero-product : (q : ℕ) → Prime q → (a b : ℕ) → a < q → b < q → a ≢ 0 → b ≢ 0 → (a * b) % q ≢ 0

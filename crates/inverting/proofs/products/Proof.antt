@@ -1,13 +1,13 @@
--- `column::products` meets its contract: one element more at a time. Assumes nothing.
+-- `inverting::products` meets its contract: one element more at a time. Assumes nothing.
 use mathlib.Core.Path.{_≡_, refl}
 use Prim.Native.Nat.{_-_, _≤_, _<_}
 use native.Mathlib.Omega.{arith}
 use borrow.Author.Needs.{needs}
 use lib.ListN.{length}
-use Rattle.column.specs.Solving.{Products}
-use Rattle.column.proofs.Pivots.{products-none, products-more}
-use Rattle.column.proofs.products.Statement.{statement}
-use Rattle.column.proofs.products.Tie as tie
+use Rattle.inverting.specs.Inverses.{Products}
+use Rattle.inverting.proofs.Inverses.{products-none, products-more}
+use Rattle.inverting.proofs.products.Statement.{statement}
+use Rattle.inverting.proofs.products.Tie as tie
 
 abbrev Inv-loop : tie.InvT-loop
 Inv-loop q row out₀ all₀ i₀ i-end out all i = (i ≤ length row) × (i-end ≡ length row) × Products q row i out₀ out all

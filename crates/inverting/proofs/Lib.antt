@@ -1,0 +1,2 @@
+-- Laws of the inverses of a row.
+pub mod Inverses

@@ -1,0 +1,2 @@
+-- The inverses of a row.
+pub mod Inverses
