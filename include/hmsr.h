@@ -115,7 +115,7 @@ size_t hmsr_unpack(const uint8_t *card, size_t card_length,
                    size_t *header, size_t header_length);
 
 /* Writes what the plan program prints for an input, a refusal's line too, into the front of a text buffer of at least HMSR_PLAN_TEXT
- * bytes, and returns the text's length. Bytes behind the text keep their values. A shorter text buffer returns 0 and stays as it was. */
+ * bytes, and returns 256 + the text's length. Bytes behind the text keep their values. A shorter text buffer is turned back with 4. */
 size_t hmsr_plan(const uint8_t *input, size_t input_length,
                  uint8_t *text, size_t text_length);
 

@@ -1,10 +1,7 @@
 //! Cards, the files of nodes: packing and unpacking.
 use crate::ffi;
-use crate::refusal::{answer, cause};
+use crate::refusal::{answer, found};
 use crate::{Refusal, Shape};
-
-/// Where lengths begin in packing's answer.
-const PACKED: usize = 256;
 
 /// What a card says before its symbols.
 #[derive(Clone, Copy, Debug, PartialEq, Eq, Hash)]
@@ -29,11 +26,7 @@ impl Shape {
     /// # Ok::<(), hmsr::Refusal>(())
     /// ```
     pub fn pack(&self, node: usize, length: usize, symbols: &[u16], card: &mut [u8]) -> Result<usize, Refusal> {
-        let number = ffi::pack(*self, node, length, symbols, card);
-        if number < PACKED {
-            return Err(cause(number));
-        }
-        Ok(number - PACKED)
+        found(ffi::pack(*self, node, length, symbols, card))
     }
 
     /// A node's card, in a new buffer of its length.

@@ -1,20 +1,20 @@
 //! The transfer plan of a repair, as text.
 use crate::ffi;
-use crate::Shape;
+use crate::refusal::found;
+use crate::{Refusal, Shape};
 
 /// The bytes that a text buffer has at least.
 pub const PLAN_TEXT: usize = 1339;
 
 /// Puts the plan for an input into a text buffer of at least [`PLAN_TEXT`] bytes, and gives the text's length; the
-/// bytes behind it are as they were. `None`, and nothing put, where the buffer is shorter. An input that is refused has
-/// a plan too: one line with the refusal's number.
+/// bytes behind it are as they were. An input that is refused has a plan too: one line with the refusal's number.
 ///
 /// The input is nodes, data nodes, layers, h, the dead nodes and the helpers, each in the seven-bit form of cards.
-pub fn plan(input: &[u8], text: &mut [u8]) -> Option<usize> {
-    match ffi::plan(input, text) {
-        0 => None,
-        length => Some(length),
-    }
+///
+/// # Errors
+/// [`Refusal::WrongLength`] where the text buffer is shorter; nothing is put there.
+pub fn plan(input: &[u8], text: &mut [u8]) -> Result<usize, Refusal> {
+    found(ffi::plan(input, text))
 }
 
 /// The plan for an input.

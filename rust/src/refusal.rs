@@ -83,6 +83,14 @@ pub(crate) fn answer(number: usize) -> Result<(), Refusal> {
     Err(cause(number))
 }
 
+/// Where what a call found begins in its answer; below are causes' numbers.
+const FIRST_FOUND: usize = 256;
+
+/// What a call answered that returns a length: 256 and the length, or a cause's number.
+pub(crate) fn found(number: usize) -> Result<usize, Refusal> {
+    number.checked_sub(FIRST_FOUND).ok_or_else(|| cause(number))
+}
+
 /// The cause of an answer that is not 0. The library is proved to answer with no other number.
 pub(crate) fn cause(number: usize) -> Refusal {
     match Refusal::from_number(number) {

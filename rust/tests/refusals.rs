@@ -518,7 +518,7 @@ fn every_cut_plan_is_refused() {
 fn a_short_text_buffer_is_not_touched() {
     for length in [0, 1, hmsr::PLAN_TEXT - 1] {
         let mut text = Lent::bytes(&mut Random::new(1), length);
-        assert_eq!(hmsr::plan(&accepted_plan().bytes(), text.slice()), None);
+        assert_eq!(hmsr::plan(&accepted_plan().bytes(), text.slice()), Err(hmsr::Refusal::WrongLength));
         text.assert_holds(&[]);
     }
 }

@@ -64,7 +64,7 @@ fn empty_buffers_are_refused_for_their_length() {
     assert_eq!(SHAPE.pack(0, 0, &[], &mut []), Err(Refusal::WrongLength));
     assert_eq!(unpack(&CARD, &mut []), Err(Refusal::WrongLength));
     assert_eq!(unpack(&[], &mut []), Err(Refusal::Malformed));
-    assert_eq!(plan(&[], &mut []), None);
+    assert_eq!(plan(&[], &mut []), Err(Refusal::WrongLength));
     assert_eq!(plan_text(&[]), b"6\n");
 }
 
@@ -209,12 +209,12 @@ fn a_plan_needs_its_room_and_no_more_is_touched() {
     let printed = b"4 1 3 2\n2 0 16\n3 0 16\n2 1 16\n3 1 16\n1 0 16\n0 1 16\n96\n";
     for length in [0, 1, 53, PLAN_TEXT - 1] {
         let mut text = vec![b'.'; length];
-        assert_eq!(plan(&input, &mut text), None);
+        assert_eq!(plan(&input, &mut text), Err(Refusal::WrongLength));
         assert_eq!(text, vec![b'.'; length]);
     }
     for length in [PLAN_TEXT, PLAN_TEXT + 1, 5000] {
         let mut text = vec![b'.'; length];
-        assert_eq!(plan(&input, &mut text), Some(printed.len()));
+        assert_eq!(plan(&input, &mut text), Ok(printed.len()));
         assert_eq!(text[..printed.len()], *printed);
         assert!(text[printed.len()..].iter().all(|&byte| byte == b'.'));
     }

@@ -30,14 +30,14 @@ pub record Headed (h : Header) : Type 0 where
   pub shape-good : shapeBad (h .shape) ≡ false
   pub shaped : Shaped (h .shape)
   pub node-low : h .node < h .shape .n
-  pub length-low : h .length ≤ h .shape .k * size (h .shape)
+  pub length-low : h .len ≤ h .shape .k * size (h .shape)
 
 pub header-accepted : (h : Header) (rest : ℕ) → headerRefusal h rest ≡ 0 → Headed h × (rest ≡ 0)
 unfolding headerRefusal
 header-accepted h rest e =
     let one = passed (shapeBad (h .shape)) 0 _ e in
     let two = passed (not (ltb (h .node) (h .shape .n))) 1 _ (one .1) in
-    let six = passed (ltb (h .shape .k * size (h .shape)) (h .length)) 5 rest (two .1) in
+    let six = passed (ltb (h .shape .k * size (h .shape)) (h .len)) 5 rest (two .1) in
     (record { shape-good = one .0; shaped = shape-accepted (h .shape) (one .0); node-low = ltb-true _ _ (not-false _ (two .0)); length-low = ltb-false _ _ (six .0) }, six .1)
 
 module _ (h : Header) (rest : ℕ) where
@@ -51,13 +51,13 @@ module _ (h : Header) (rest : ℕ) where
     head-node l = rw (good, le-ltb (h .node) (h .shape .n) l)
 
     module _ (low : h .node < h .shape .n) where
-      pub head-length : h .shape .k * size (h .shape) < h .length → headerRefusal h rest ≡ 6
+      pub head-length : h .shape .k * size (h .shape) < h .len → headerRefusal h rest ≡ 6
       unfolding headerRefusal
-      head-length l = rw (good, lt-ltb (h .node) (h .shape .n) low, lt-ltb (h .shape .k * size (h .shape)) (h .length) l)
+      head-length l = rw (good, lt-ltb (h .node) (h .shape .n) low, lt-ltb (h .shape .k * size (h .shape)) (h .len) l)
 
-      pub head-good : h .length ≤ h .shape .k * size (h .shape) → headerRefusal h rest ≡ rest
+      pub head-good : h .len ≤ h .shape .k * size (h .shape) → headerRefusal h rest ≡ rest
       unfolding headerRefusal
-      head-good l = rw (good, lt-ltb (h .node) (h .shape .n) low, le-ltb (h .shape .k * size (h .shape)) (h .length) l)
+      head-good l = rw (good, lt-ltb (h .node) (h .shape .n) low, le-ltb (h .shape .k * size (h .shape)) (h .len) l)
 
 -- a cause of the header does not depend on what is judged behind it
 pub header-passes : (h : Header) (rest rest′ : ℕ) → headerRefusal h rest ≡ 0 → headerRefusal h rest′ ≡ rest′
@@ -65,12 +65,12 @@ unfolding headerRefusal
 header-passes h rest rest′ e =
     let one = passed (shapeBad (h .shape)) 0 _ e in
     let two = passed (not (ltb (h .node) (h .shape .n))) 1 _ (one .1) in
-    let six = passed (ltb (h .shape .k * size (h .shape)) (h .length)) 5 rest (two .1) in
+    let six = passed (ltb (h .shape .k * size (h .shape)) (h .len)) 5 rest (two .1) in
     rw (one .0, two .0, six .0)
 
 pub header-turns : (h : Header) (rest : ℕ) (cause : Refusal) → numberOf cause ≡ headerRefusal h 0 → numberOf cause ≡ headerRefusal h rest
 unfolding headerRefusal
-header-turns h rest cause e = go (shapeBad (h .shape)) (not (ltb (h .node) (h .shape .n))) (ltb (h .shape .k * size (h .shape)) (h .length)) e
+header-turns h rest cause e = go (shapeBad (h .shape)) (not (ltb (h .node) (h .shape .n))) (ltb (h .shape .k * size (h .shape)) (h .len)) e
   where
     go : (one two six : Bool) → numberOf cause ≡ refuse one 1 (refuse two 2 (refuse six 6 0)) → numberOf cause ≡ refuse one 1 (refuse two 2 (refuse six 6 rest))
     go true two six e = e

@@ -8,6 +8,7 @@ use lib.ListN.{length, length-append}
 use lib.Seq.{sets, length-sets}
 use Rattle.lists.specs.Lists.{all, below}
 use Rattle.lists.proofs.Writing.{sets-append, sets-front}
+use Rattle.shape.specs.Shape.{symbolValues}
 use Rattle.shape.specs.declared.Refusal.{Refusal}
 use Rattle.shape.specs.Refusals.{numberOf}
 use Rattle.shape.proofs.Answers.{afterwards-done, afterwards-refused}
@@ -15,7 +16,7 @@ use Rattle.card.specs.declared.Header.{Header}
 use Rattle.card.specs.declared.Packed.the-variants.{Card, Refused}
 use Rattle.numbers.specs.Numbers.{mostGroups, groupValues, numeral}
 use Rattle.card.specs.Cards.{headerNumbers, cardBytes, packRefusal}
-use Rattle.card.specs.Promises.{symbolValues, over, Packs}
+use Rattle.card.specs.Promises.{over, Packs}
 use Rattle.card.proofs.Judging.{pack-accepted}
 use Rattle.card.proofs.Cards.{header-small, card-parts, card-fits}
 

@@ -8,7 +8,7 @@ use native.Mathlib.Omega.{arith}
 use lib.ListN.{length, take, drop, length-append, take-append-drop}
 use lib.Seq.{take-at, drop-append-seam}
 use Rattle.lists.specs.Lists.{all, below}
-use Rattle.shape.specs.Shape.{size, byteValues}
+use Rattle.shape.specs.Shape.{symbolValues, size, byteValues}
 use Rattle.shape.proofs.Answers.{number-positive, afterwards-done}
 use Rattle.card.specs.declared.Header.{Header}
 use Rattle.numbers.specs.declared.Number.the-variants.{Read}
@@ -18,7 +18,7 @@ use Rattle.card.specs.declared.Unpacked.{Unpacked}
 use Rattle.card.specs.declared.Unpacked.the-variants as unpack
 use Rattle.numbers.specs.Numbers.{mostGroups, groupValues, numeral, readNumber, placed, numberAt}
 use Rattle.card.specs.Cards.{cardBytes, cardRoom, packRefusal, card, unpacked}
-use Rattle.card.specs.Promises.{symbolValues, over, Packs, readingOf, Unpacks}
+use Rattle.card.specs.Promises.{over, Packs, readingOf, Unpacks}
 use Rattle.numbers.proofs.Numbers.{read-numeral, number-unique, all-behind}
 use Rattle.numbers.proofs.Places.{number-read}
 use Rattle.card.proofs.Cards.{unpack-packed, pack-unpacked}

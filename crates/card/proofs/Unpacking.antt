@@ -10,7 +10,7 @@ use lib.Seq.{drop-length}
 use Rattle.lists.proofs.Tests.{below-or-not}
 use Rattle.shape.specs.declared.Refusal.{Refusal}
 use Rattle.shape.specs.declared.Refusal.the-variants.{Malformed}
-use Rattle.shape.specs.Shape.{size}
+use Rattle.shape.specs.Shape.{symbolValues, size}
 use Rattle.shape.specs.Refusals.{numberOf, refuse, wrongLength}
 use Rattle.shape.proofs.Accepted.{passed}
 use Rattle.shape.proofs.Answers.{number-positive}
@@ -19,7 +19,7 @@ use Rattle.card.specs.declared.Front.the-variants as front
 use Rattle.card.specs.declared.Unpacked.the-variants as unpack
 use Rattle.numbers.specs.Numbers.{mostGroups, Found, value, malformed, readNumber, Numbers, values, broken, andThen, thenNumbers, readNumbers}
 use Rattle.card.specs.Cards.{headerOf, headerCount, headerRefusal, Symbols, bad, got, symbolsNumber, symbolsRead, readSymbols, refused, card, judged, withHeader, unpacked, frontOf}
-use Rattle.card.specs.Promises.{symbolValues, readingNumber, readingSymbols, Unpacks}
+use Rattle.card.specs.Promises.{readingNumber, readingSymbols, Unpacks}
 use Rattle.card.proofs.Judging.{header-accepted}
 use Rattle.numbers.proofs.Places.{read-behind}
 use Rattle.card.proofs.Reading.{symbols-good}

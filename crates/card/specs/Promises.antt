@@ -3,6 +3,7 @@ use mathlib.Core.Path.{_≡_}
 use mathlib.Core.List.{List, [], _∷_, _++_}
 use Prim.Native.Nat.{ℕ}
 use lib.ListN.{length, drop}
+use Rattle.shape.specs.Shape.{symbolValues}
 use Rattle.shape.specs.Refusals.{numberOf, afterwards}
 use Rattle.card.specs.declared.Header.{Header}
 use Rattle.card.specs.declared.Packed.{Packed}
@@ -10,10 +11,6 @@ use Rattle.card.specs.declared.Packed.the-variants as pack
 use Rattle.card.specs.declared.Unpacked.{Unpacked}
 use Rattle.card.specs.declared.Unpacked.the-variants as unpack
 use Rattle.card.specs.Cards.{cardBytes, packRefusal, Reading, refused, card, unpacked}
-
--- "Symbols are whole numbers 0 to 256"
-abbrev pub symbolValues : ℕ
-symbolValues = 257
 
 -- ---- packing
 

@@ -2,7 +2,7 @@
 use mathlib.Core.Path.{_≡_, refl, sym, ap, ap₂, _∙_}
 use mathlib.Core.Logic.{_≢_, _↔_}
 use mathlib.Core.Bool.{Bool, true, false, cond}
-use mathlib.Core.List.{List}
+use mathlib.Core.List.{List, []}
 use Prim.Native.Nat.{ℕ, _+_, _-_, _*_, _/_, _%_, _^_, _<_}
 use native.Mathlib.Decide.{ℕ-discrete}
 use native.Mathlib.Omega.{arith}
@@ -17,13 +17,13 @@ use Rattle.shape.specs.declared.Shape.{Shape}
 use Rattle.shape.specs.Shape.{size}
 use Rattle.shape.specs.declared.Refusal.{Refusal}
 use Rattle.shape.specs.Refusals.{numberOf}
-use Rattle.shape.proofs.Answers.{number-positive}
+use Rattle.shape.proofs.Answers.{number-positive, afterwards-done, afterwards-refused}
 use Rattle.checking.specs.declared.Checked.{Checked}
 use Rattle.checking.specs.declared.Checked.the-variants.{Sound, Unmet, Refused}
 use Rattle.code.specs.Code.{narrow}
 use Rattle.code.specs.Archive.{equation, unmet, firstUnmet}
 use Rattle.code.specs.Refusals.{checkRefusal}
-use Rattle.checking.specs.Promises.{checkedNumber, checkedBy, Checks, equationNumber, FirstUnmet}
+use Rattle.checking.specs.Promises.{checkedNumber, checkedValues, checkedBy, Checks, equationNumber, FirstUnmet}
 use Rattle.code.proofs.Accepted.{sound-iff}
 use Rattle.code.proofs.Unmet.{unmet-upto, unmet-first}
 
@@ -130,6 +130,7 @@ module _ (s : Shape) (nodes : List ℕ) where
   checks-looked answer accepted e =
       let iff = sound-iff s nodes accepted in record {
         number = ap checkedNumber e ∙ looked (firstUnmet narrow s nodes) ∙ sym accepted;
+        returned = ap checkedValues e ∙ sym (afterwards-done [] _ (checkRefusal narrow s nodes) accepted);
         found = λ _. e;
         sound = λ _. (λ z. iff .0 (sound-none-iff .0 (sym e ∙ z)), λ w. e ∙ sound-none-iff .1 (iff .1 w));
         unmet = λ layer a t z. unmet-tells layer a t (sym e ∙ z);
@@ -138,6 +139,7 @@ module _ (s : Shape) (nodes : List ℕ) where
   pub checks-refused : (cause : Refusal) → numberOf cause ≡ checkRefusal narrow s nodes → Checks s nodes (Refused cause)
   checks-refused cause e = record {
     number = e;
+    returned = sym (afterwards-refused [] _ cause (checkRefusal narrow s nodes) e);
     found = λ z. absurd (turned z);
     sound = λ z. absurd (turned z);
     unmet = λ layer a t z. absurd (apart layer a t z);

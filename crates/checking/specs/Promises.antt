@@ -2,12 +2,12 @@
 use mathlib.Core.Path.{_≡_}
 use mathlib.Core.Logic.{_≢_, _↔_}
 use mathlib.Core.Bool.{cond}
-use mathlib.Core.List.{List}
+use mathlib.Core.List.{List, [], _∷_}
 use Prim.Native.Nat.{ℕ, _+_, _-_, _*_, _/_, _%_, _^_, _<_}
 use lib.Dec.{eqb}
 use Rattle.shape.specs.declared.Shape.{Shape}
 use Rattle.shape.specs.Shape.{size}
-use Rattle.shape.specs.Refusals.{numberOf}
+use Rattle.shape.specs.Refusals.{numberOf, afterwards}
 use Rattle.code.specs.Code.{narrow}
 use Rattle.code.specs.Archive.{equation, Codeword, firstUnmet}
 use Rattle.code.specs.Refusals.{checkRefusal}
@@ -19,6 +19,12 @@ abbrev pub checkedNumber : Checked → ℕ
 checkedNumber Sound = 0
 checkedNumber (Unmet layer a t) = 0
 checkedNumber (Refused r) = numberOf r
+
+-- the values of an answer: "the first unmet equation by layer, then a, then t"
+abbrev pub checkedValues : Checked → List ℕ
+checkedValues Sound = []
+checkedValues (Unmet layer a t) = layer ∷ a ∷ t ∷ []
+checkedValues (Refused r) = []
 
 -- "The check answers sound, or the first unmet equation by layer, then a, then t": equation e is t = e mod r at place e div r, which is
 -- layer × 2^n + a; e is N × r where all are met
@@ -42,6 +48,7 @@ pub record FirstUnmet (s : Shape) (nodes : List ℕ) (layer a t : ℕ) : Type 0 
 
 pub record Checks (s : Shape) (nodes : List ℕ) (answer : Checked) : Type 0 where
   pub number : checkedNumber answer ≡ checkRefusal narrow s nodes
+  pub returned : checkedValues answer ≡ afterwards (checkRefusal narrow s nodes) [] (checkedValues (checkedBy s (firstUnmet narrow s nodes)))
   pub found : checkRefusal narrow s nodes ≡ 0 → answer ≡ checkedBy s (firstUnmet narrow s nodes)
   -- demand 2: sound exactly if the nodes are a codeword
   pub sound : checkRefusal narrow s nodes ≡ 0 → (answer ≡ Sound) ↔ Codeword narrow s nodes

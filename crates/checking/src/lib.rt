@@ -1,9 +1,9 @@
 // The check of an archive (demand 2).
-use code::MODULUS;
 use code::gathered;
 use code::points_at;
 use column::parity;
 use shape::Answer;
+use shape::MODULUS;
 use shape::Refusal;
 use shape::Shape;
 use shape::shape_bad;

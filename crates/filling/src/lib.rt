@@ -1,12 +1,12 @@
 // The nodes that are not listed, filled in from those that are, a run of places at a time: each symbol is the sum of the listed nodes'
 // symbols at its place, each times a multiplier that serves all layers.
-use code::MODULUS;
 use patterns::pays;
 use patterns::represent;
 use patterns::run_multipliers;
 use rows::RUN;
 use rows::add_products;
 use rows::store;
+use shape::MODULUS;
 use shape::MOST_NODES;
 use shape::Shape;
 use shape::two_to;

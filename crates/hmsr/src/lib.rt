@@ -19,7 +19,7 @@ ghost use Rattle.card.specs.Promises.{Packs};
 ghost use Rattle.plan.specs.Promises.{Plans};
 ghost use Rattle.returned.specs.Promises.{Returned, shapeOf, headerFrom, checkReturned, packReturned, planReturned, UnpackReturned};
 
-// What check and pack find is returned behind the numbers below this one, which are refusals'.
+// What check, pack and plan find is returned behind the numbers below this one, which are refusals'.
 const FIRST_FOUND: usize = 256;
 
 // The archive of a transcript.
@@ -66,7 +66,7 @@ pub extern "C" fn hmsr_restore(
     answer_number(restoring::restore(s, list, symbols, nodes))
 }
 
-// The transcript of `length` bytes from any k nodes.
+// The transcript of `len` bytes from any k nodes.
 #[no_mangle]
 pub extern "C" fn hmsr_open(
     n: usize,
@@ -74,13 +74,13 @@ pub extern "C" fn hmsr_open(
     layers: usize,
     list: &[usize],
     symbols: &[u16],
-    length: usize,
+    len: usize,
     transcript: &mut [u8],
 ) -> usize
-    ensures { λ r. ⌜ Returned answerNumber (Opens (shapeOf n k layers) (now (list .entry)) (now (symbols .entry)) length (now (transcript .entry)) (now (transcript .exit))) r ⌝ }
+    ensures { λ r. ⌜ Returned answerNumber (Opens (shapeOf n k layers) (now (list .entry)) (now (symbols .entry)) len (now (transcript .entry)) (now (transcript .exit))) r ⌝ }
 {
     let s = Shape { n, k, layers };
-    answer_number(opening::open(s, list, symbols, length, transcript))
+    answer_number(opening::open(s, list, symbols, len, transcript))
 }
 
 // A helper's message to a new node.
@@ -164,17 +164,17 @@ pub extern "C" fn hmsr_pack(
     k: usize,
     layers: usize,
     node: usize,
-    length: usize,
+    len: usize,
     symbols: &[u16],
     card: &mut [u8],
 ) -> usize
-    ensures { λ r. ⌜ Returned packReturned (Packs (headerFrom n k layers node length) (now (symbols .entry)) (now (card .entry)) (now (card .exit))) r ⌝ }
+    ensures { λ r. ⌜ Returned packReturned (Packs (headerFrom n k layers node len) (now (symbols .entry)) (now (card .entry)) (now (card .exit))) r ⌝ }
 {
     let shape = Shape { n, k, layers };
     let header = Header {
         shape,
         node,
-        length,
+        len,
     };
     match card::pack(header, symbols, card) {
         Packed::Refused(cause) => number_of(cause),
@@ -197,13 +197,13 @@ pub extern "C" fn hmsr_unpack(card: &[u8], symbols: &mut [u16], header: &mut [us
     }
 }
 
-// The plan's text for an input: its length, 0 where the text's buffer is too short.
+// The plan's text for an input: a refusal's number, or the text's length behind FIRST_FOUND.
 #[no_mangle]
 pub extern "C" fn hmsr_plan(input: &[u8], text: &mut [u8]) -> usize
     ensures { λ r. ⌜ Returned planReturned (Plans (now (input .entry)) (now (text .entry)) (now (text .exit))) r ⌝ }
 {
     match plan::plan(input, text) {
-        Planned::Refused(_) => 0,
-        Planned::Text(long) => long,
+        Planned::Refused(cause) => number_of(cause),
+        Planned::Text(long) => FIRST_FOUND + long,
     }
 }

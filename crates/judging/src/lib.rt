@@ -1,6 +1,6 @@
 // What the calls of a repair turn back for.
-use code::MODULUS;
 use shape::Answer;
+use shape::MODULUS;
 use shape::Refusal;
 use shape::Shape;
 use shape::batch;

@@ -1,10 +1,10 @@
 // Opening: a transcript from any k nodes of an archive (demand 2).
-use code::MODULUS;
 use code::gathered;
 use code::points_at;
 use column::Outcome;
 use completion::complete;
 use shape::Answer;
+use shape::MODULUS;
 use shape::MOST_NODES;
 use shape::Refusal;
 use shape::Shape;
@@ -29,8 +29,8 @@ ghost use Rattle.code.specs.Promises.{Opens};
 ghost use Rattle.opening.specs.Steps.{CompletedAt, Readable, RestoredAt};
 
 // Causes 1, 2, 4 and 5 of opening into a buffer of `room` bytes, in this order.
-fn judge_open(s: Shape, list: &[usize], symbols: &[u16], length: usize, room: usize) -> Answer
-    ensures { λ r. ⌜ answerNumber r ≡ openInputRefusal narrow s (now (list .entry)) (now (symbols .entry)) length room 0 ⌝ }
+fn judge_open(s: Shape, list: &[usize], symbols: &[u16], len: usize, room: usize) -> Answer
+    ensures { λ r. ⌜ answerNumber r ≡ openInputRefusal narrow s (now (list .entry)) (now (symbols .entry)) len room 0 ⌝ }
 {
     if shape_bad(s) {
         return Answer::Refused(Refusal::BadShape);
@@ -41,7 +41,7 @@ fn judge_open(s: Shape, list: &[usize], symbols: &[u16], length: usize, room: us
         return Answer::Refused(Refusal::BadNodes);
     }
     let due = k * size(s);
-    if (symbols.len() != due) | (due < length) | (room != length) {
+    if (symbols.len() != due) | (due < len) | (room != len) {
         return Answer::Refused(Refusal::WrongLength);
     }
     if symbol_bad(MODULUS, symbols) {
@@ -51,10 +51,10 @@ fn judge_open(s: Shape, list: &[usize], symbols: &[u16], length: usize, room: us
 }
 
 // Whether data symbol e may be x: not "a data symbol within the length is 256, or one beyond it is not 0".
-fn data_fits(length: usize, e: usize, x: u32) -> bool
-    ensures { λ r. ⌜ r ≡ dataFits length e x ⌝ }
+fn data_fits(len: usize, e: usize, x: u32) -> bool
+    ensures { λ r. ⌜ r ≡ dataFits len e x ⌝ }
 {
-    if e < length { x < 256 } else { x == 0 }
+    if e < len { x < 256 } else { x == 0 }
 }
 
 // Whether all data symbols of a column may be what they are.
@@ -62,14 +62,14 @@ fn column_fits(
     k: usize,
     size: usize,
     place: usize,
-    length: usize,
+    len: usize,
     column: [u32; MOST_NODES],
 ) -> bool
     requires { ⌜ (k ≤ mostNodes) × (size ≤ mostLayers * 2 ^ mostNodes) × (place < size) ⌝ }
-    ensures { λ fit. ⌜ ColumnFits k size place length column fit ⌝ }
+    ensures { λ fit. ⌜ ColumnFits k size place len column fit ⌝ }
 {
     for j in 0..k {
-        if !data_fits(length, j * size + place, column[j]) {
+        if !data_fits(len, j * size + place, column[j]) {
             return false;
         }
     }
@@ -106,9 +106,9 @@ fn restored_at(s: Shape, list: &[usize], symbols: &[u16], place: usize) -> Colum
 }
 
 // Causes 8 and 7 of opening, of which the first never holds. The data symbols are worked out a place at a time, and not kept.
-fn judge_data(s: Shape, list: &[usize], symbols: &[u16], length: usize) -> Answer
-    requires { ⌜ openInputRefusal narrow s (now list) (now symbols) length length 0 ≡ 0 ⌝ }
-    ensures { λ r. ⌜ answerNumber r ≡ dataRefusal narrow s (now (list .entry)) (now (symbols .entry)) length ⌝ }
+fn judge_data(s: Shape, list: &[usize], symbols: &[u16], len: usize) -> Answer
+    requires { ⌜ openInputRefusal narrow s (now list) (now symbols) len len 0 ≡ 0 ⌝ }
+    ensures { λ r. ⌜ answerNumber r ≡ dataRefusal narrow s (now (list .entry)) (now (symbols .entry)) len ⌝ }
 {
     let k = s.k;
     let places = size(s);
@@ -119,7 +119,7 @@ fn judge_data(s: Shape, list: &[usize], symbols: &[u16], length: usize) -> Answe
         let Outcome::Solved = outcome else {
             return Answer::Refused(Refusal::ZeroDivisor);
         };
-        if !column_fits(k, places, place, length, held) {
+        if !column_fits(k, places, place, len, held) {
             return Answer::Refused(Refusal::NoTranscript);
         }
     }
@@ -165,21 +165,21 @@ fn open_all(s: Shape, list: &[usize], symbols: &[u16], transcript: &mut [u8]) ->
     Answer::Done
 }
 
-// The transcript of `length` bytes from any k nodes.
+// The transcript of `len` bytes from any k nodes.
 pub fn open(
     s: Shape,
     list: &[usize],
     symbols: &[u16],
-    length: usize,
+    len: usize,
     transcript: &mut [u8],
 ) -> Answer
-    ensures { λ answer. ⌜ Opens s (now (list .entry)) (now (symbols .entry)) length (now (transcript .entry)) (now (transcript .exit)) answer ⌝ }
+    ensures { λ answer. ⌜ Opens s (now (list .entry)) (now (symbols .entry)) len (now (transcript .entry)) (now (transcript .exit)) answer ⌝ }
 {
-    match judge_open(s, list, symbols, length, transcript.len()) {
+    match judge_open(s, list, symbols, len, transcript.len()) {
         Answer::Refused(cause) => return Answer::Refused(cause),
         Answer::Done => {}
     }
-    match judge_data(s, list, symbols, length) {
+    match judge_data(s, list, symbols, len) {
         Answer::Refused(cause) => Answer::Refused(cause),
         Answer::Done => open_all(s, list, symbols, transcript),
     }

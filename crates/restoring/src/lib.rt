@@ -1,8 +1,8 @@
 // All n nodes of an archive from any k of them.
-use code::MODULUS;
 use filling::fill;
 use rows::copy;
 use shape::Answer;
+use shape::MODULUS;
 use shape::Refusal;
 use shape::Shape;
 use shape::nodes_bad;

@@ -11,7 +11,7 @@ use lib.Seq.{length-take-le, drop-length}
 use Rattle.lists.proofs.Tests.{cond-equal, cond-unequal}
 use Rattle.lists.proofs.Writing.{sets-front}
 use Rattle.shape.specs.declared.Refusal.{Refusal}
-use Rattle.shape.specs.Shape.{mostNodes, mostLayers, size}
+use Rattle.shape.specs.Shape.{symbolValues, mostNodes, mostLayers, size}
 use Rattle.shape.specs.Refusals.{numberOf, refuse, wrongLength}
 use Rattle.shape.proofs.Accepted.{passed}
 use Rattle.shape.proofs.Answers.{number-positive, afterwards-done}
@@ -22,7 +22,7 @@ use Rattle.card.specs.declared.Unpacked.{Unpacked}
 use Rattle.card.specs.declared.Unpacked.the-variants as unpack
 use Rattle.numbers.specs.Numbers.{Numbers, values, broken, readNumbers}
 use Rattle.card.specs.Cards.{headerNumbers, headerOf, headerCount, headerRefusal, cardBytes, cardRoom, packRefusal, Symbols, readSymbols, refused, card, judged, withHeader, unpacked}
-use Rattle.card.specs.Promises.{symbolValues, packedNumber, packedValues, readingOf, readingNumber, readingSymbols, Packs, Unpacks}
+use Rattle.card.specs.Promises.{packedNumber, packedValues, readingOf, readingNumber, readingSymbols, Packs, Unpacks}
 use Rattle.card.proofs.Judging.{header-accepted, pack-accepted}
 use Rattle.card.proofs.Cards.{card-fits}
 use Rattle.returned.specs.Promises.{unpackRoom, unpackedInto, readingHeader, UnpackReturned}

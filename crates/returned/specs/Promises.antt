@@ -5,6 +5,7 @@ use mathlib.Core.List.{List}
 use Prim.Native.Nat.{ℕ, _+_}
 use lib.Dec.{eqb}
 use lib.ListN.{length}
+use Rattle.shape.specs.Shape.{symbolValues}
 use Rattle.shape.specs.declared.Shape.{Shape}
 use Rattle.shape.specs.Refusals.{numberOf}
 use Rattle.checking.specs.declared.Checked.{Checked}
@@ -14,7 +15,7 @@ use Rattle.card.specs.declared.Header.{Header}
 use Rattle.card.specs.declared.Packed.{Packed}
 use Rattle.card.specs.declared.Packed.the-variants as packed
 use Rattle.card.specs.Cards.{Reading, refused, card, headerNumbers, headerCount, unpacked}
-use Rattle.card.specs.Promises.{symbolValues, readingNumber, readingSymbols}
+use Rattle.card.specs.Promises.{readingNumber, readingSymbols}
 use Rattle.plan.specs.declared.Planned.{Planned}
 use Rattle.plan.specs.declared.Planned.the-variants as planned
 
@@ -30,11 +31,11 @@ shapeOf n k layers = record { n = n; k = k; layers = layers }
 
 -- the header that five numbers make
 abbrev pub headerFrom : ℕ → ℕ → ℕ → ℕ → ℕ → Header
-headerFrom n k layers node length = record { shape = shapeOf n k layers; node = node; length = length }
+headerFrom n k layers node len = record { shape = shapeOf n k layers; node = node; len = len }
 
 -- ---- what a number says beside a refusal
 
--- what check finds and the length of a packed card stand behind the numbers below this one, which are refusals'
+-- what check finds, the length of a packed card and that of a plan's text stand behind the numbers below this one, which are refusals'
 abbrev pub firstFound : ℕ
 firstFound = 256
 
@@ -49,10 +50,10 @@ abbrev pub packReturned : Packed → ℕ
 packReturned (packed.Refused cause) = numberOf cause
 packReturned (packed.Card long) = firstFound + long
 
--- the text's length, 0 where the text buffer is too short
+-- a refusal's number, or 256 + the text's length
 abbrev pub planReturned : Planned → ℕ
-planReturned (planned.Refused cause) = 0
-planReturned (planned.Text long) = long
+planReturned (planned.Refused cause) = numberOf cause
+planReturned (planned.Text long) = firstFound + long
 
 -- ---- unpack
 

@@ -53,5 +53,5 @@ pub fn store_header(read: Header, header: &mut [usize])
     header[1] = s.k;
     header[2] = s.layers;
     header[3] = read.node;
-    header[4] = read.length;
+    header[4] = read.len;
 }

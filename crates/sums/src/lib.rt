@@ -2,8 +2,8 @@
 use classes::Layout;
 use classes::a_at;
 use classes::batch_at;
-use code::MODULUS;
 use field::add;
+use shape::MODULUS;
 use shape::two_to;
 ghost use mathlib.Core.Path.{_≡_};
 ghost use Prim.Native.Nat.{_*_, _^_, _<_};

@@ -1,10 +1,10 @@
 // The multipliers of a run of consecutive a, worked out together: for each node that is not listed, a row for each listed node.
-use code::MODULUS;
 use code::point;
 use rows::RUN;
 use rows::inverses;
 use rows::quotients;
 use rows::scale;
+use shape::MODULUS;
 use shape::MOST_NODES;
 use shape::listed;
 ghost use mathlib.Core.Path.{_≡_};

@@ -156,7 +156,7 @@ pub fn plan(random: &mut Random, input: &[u8], text_length: usize) -> Number {
     let printed = naive::plan(input);
     assert!(printed.len() <= hmsr::PLAN_TEXT);
     let expected = if text_length < hmsr::PLAN_TEXT { None } else { Some(printed.as_str()) };
-    assert_eq!(answer, expected.map(str::len));
+    assert_eq!(answer, expected.map(str::len).ok_or(hmsr::Refusal::WrongLength));
     text.assert_holds(expected.unwrap_or("").as_bytes());
     match expected {
         None => 4,

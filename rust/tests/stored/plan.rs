@@ -30,13 +30,13 @@ fn number_in(text: &[u8]) -> usize {
 fn plan_into_room(tally: &mut Tally, input: &[u8], room: usize) {
     let mut text = [170; PLAN_TEXT + 4];
     match plan(input, &mut text[..room]) {
-        Some(length) => {
+        Ok(length) => {
             tally.count(number_in(&text[..length]));
             tally.take(length);
             tally.take_all(&text[..length + 4]);
         }
-        None => {
-            tally.count(4);
+        Err(refusal) => {
+            tally.count(refusal.number());
             tally.take_all(&text);
         }
     }

@@ -2,9 +2,9 @@
 use mathlib.Core.Path.{_≡_, sym, ap, _∙_}
 use borrow.Author.Needs.{needs}
 use lib.ListN.{length}
+use Rattle.shape.specs.Shape.{symbolValues}
 use Rattle.shape.specs.Refusals.{answerNumber}
 use Rattle.card.specs.Cards.{headerNumbers, packRefusal}
-use Rattle.card.specs.Promises.{symbolValues}
 use Rattle.card.proofs.Packing.{packs-refused, header-fits, symbols-fit, packs-done}
 use Rattle.card.proofs.pack.Statement.{statement}
 use Rattle.card.proofs.pack.Tie as tie

@@ -39,7 +39,7 @@ returns-5 c = begun-bad (four (c .before .before .before)) (sym (c .before .befo
 returns-6 : tie.Need-returns-6
 unfolding headerOf
 returns-6 c =
-    begun-end _ _ (begun-next (four (c .before .before .before .before)) (sym (c .before .before .before .read-number5 .ensures) ∙ c .before .length .given .1))
+    begun-end _ _ (begun-next (four (c .before .before .before .before)) (sym (c .before .before .before .read-number5 .ensures) ∙ c .before .len .given .1))
 
 pub read-header-spec : {M : Type 1} → statement M
 read-header-spec =

@@ -8,8 +8,8 @@ use borrow.Author.Needs.{needs}
 use lib.ListN.{length, take, drop, length-set}
 use lib.Seq.{take-all}
 use Rattle.lists.proofs.Buffers.{take-more}
+use Rattle.shape.specs.Shape.{symbolValues}
 use Rattle.card.specs.Cards.{symbolsRead, readSymbols}
-use Rattle.card.specs.Promises.{symbolValues}
 use Rattle.card.proofs.Reading.{Good, symbols-good, scan-kept, kept-never, kept-end}
 use Rattle.card.proofs.read_symbols.Statement.{statement}
 use Rattle.card.proofs.read_symbols.Tie as tie

@@ -14,10 +14,10 @@ use Rattle.opening.proofs.column_fits.Statement.{statement}
 use Rattle.opening.proofs.column_fits.Tie as tie
 
 abbrev Inv-loop : tie.InvT-loop
-Inv-loop k size place length column j₀ j = (j ≤ k) × ((i : ℕ) → i < j → dataFits length (i * size + place) (getD column i 0) ≡ true)
+Inv-loop k size place len column j₀ j = (j ≤ k) × ((i : ℕ) → i < j → dataFits len (i * size + place) (getD column i 0) ≡ true)
 
 abbrev μ-loop : tie.MeasureT-loop
-μ-loop k size place length column j₀ j = k - j
+μ-loop k size place len column j₀ j = k - j
 
 loop-holds : tie.Need-loop-holds Inv-loop μ-loop
 loop-holds c = (search needs, λ i h. absurd (omega arith))

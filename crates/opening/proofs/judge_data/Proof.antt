@@ -16,14 +16,14 @@ use Rattle.opening.proofs.judge_data.Statement.{statement}
 use Rattle.opening.proofs.judge_data.Tie as tie
 
 abbrev Inv-loop : tie.InvT-loop
-Inv-loop s list symbols length k places place₀ place =
-    (place ≤ size s) × FitTo s list symbols length place
+Inv-loop s list symbols len k places place₀ place =
+    (place ≤ size s) × FitTo s list symbols len place
 
 abbrev μ-loop : tie.MeasureT-loop
-μ-loop s list symbols length k places place₀ place = size s - place
+μ-loop s list symbols len k places place₀ place = size s - place
 
 -- what is known of the input
-able : (c : tie.Start Inv-loop μ-loop) → let a = c .args in Openable (a .s) (a .list .now) (a .symbols .now) (a .length) (a .length)
+able : (c : tie.Start Inv-loop μ-loop) → let a = c .args in Openable (a .s) (a .list .now) (a .symbols .now) (a .len) (a .len)
 able c = open-accepted _ _ _ _ _ (c .pre)
 
 -- the place lies within a node

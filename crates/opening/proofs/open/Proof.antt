@@ -23,12 +23,12 @@ returns c =
 -- the first judging found no cause
 accepted : (c : tie.After-enum-told) →
     let a = c .before .before .before .before .before .before .args in
-    openInputRefusal narrow (a .s) (a .list .now) (a .symbols .now) (a .length) (length (a .transcript .now)) 0 ≡ 0
+    openInputRefusal narrow (a .s) (a .list .now) (a .symbols .now) (a .len) (length (a .transcript .now)) 0 ≡ 0
 accepted c = sym (c .before .before .judge-open .ensures) ∙ ap answerNumber (c .enum-told .given .1)
 
 able : (c : tie.After-enum-told) →
     let a = c .before .before .before .before .before .before .args in
-    Openable (a .s) (a .list .now) (a .symbols .now) (a .length) (length (a .transcript .now))
+    Openable (a .s) (a .list .now) (a .symbols .now) (a .len) (length (a .transcript .now))
 able c = open-accepted _ _ _ _ _ (accepted c)
 
 judge-data-requires : tie.Need-judge-data-requires
@@ -37,7 +37,7 @@ judge-data-requires c κs = rw (able c .whole) at (accepted c)
 -- nor did the second
 done : (c : tie.After-enum-told2) →
     let a = c .before .before .before .before .before .before .before .before .before .args in
-    openRefusal narrow (a .s) (a .list .now) (a .symbols .now) (a .length) (length (a .transcript .now)) ≡ 0
+    openRefusal narrow (a .s) (a .list .now) (a .symbols .now) (a .len) (length (a .transcript .now)) ≡ 0
 unfolding openRefusal
 done c =
     let j = c .before .before in
@@ -58,7 +58,7 @@ returns-2 c =
 -- what the transcript then holds
 bytes : (c : tie.After-open-all) →
     let a = c .before .before .before .before .before .before .before .before .before .before .before .args in
-    c .open-all .last .1 .1 .1 .0 ≡ take (a .length) (dataOf narrow (a .s) (a .list .now) (a .symbols .now))
+    c .open-all .last .1 .1 .1 .0 ≡ take (a .len) (dataOf narrow (a .s) (a .list .now) (a .symbols .now))
 bytes c = rw (able (c .before .before .before .before .before) .whole) at (c .open-all .ensures .1)
 
 same-length : tie.Need-same-length
