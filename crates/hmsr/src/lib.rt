@@ -171,11 +171,7 @@ pub extern "C" fn hmsr_pack(
     ensures { λ r. ⌜ Returned packReturned (Packs (headerFrom n k layers node len) (now (symbols .entry)) (now (card .entry)) (now (card .exit))) r ⌝ }
 {
     let shape = Shape { n, k, layers };
-    let header = Header {
-        shape,
-        node,
-        len,
-    };
+    let header = Header { shape, node, len };
     match card::pack(header, symbols, card) {
         Packed::Refused(cause) => number_of(cause),
         Packed::Card(long) => FIRST_FOUND + long,

@@ -58,13 +58,7 @@ fn data_fits(len: usize, e: usize, x: u32) -> bool
 }
 
 // Whether all data symbols of a column may be what they are.
-fn column_fits(
-    k: usize,
-    size: usize,
-    place: usize,
-    len: usize,
-    column: [u32; MOST_NODES],
-) -> bool
+fn column_fits(k: usize, size: usize, place: usize, len: usize, column: [u32; MOST_NODES]) -> bool
     requires { ⌜ (k ≤ mostNodes) × (size ≤ mostLayers * 2 ^ mostNodes) × (place < size) ⌝ }
     ensures { λ fit. ⌜ ColumnFits k size place len column fit ⌝ }
 {
@@ -166,13 +160,7 @@ fn open_all(s: Shape, list: &[usize], symbols: &[u16], transcript: &mut [u8]) ->
 }
 
 // The transcript of `len` bytes from any k nodes.
-pub fn open(
-    s: Shape,
-    list: &[usize],
-    symbols: &[u16],
-    len: usize,
-    transcript: &mut [u8],
-) -> Answer
+pub fn open(s: Shape, list: &[usize], symbols: &[u16], len: usize, transcript: &mut [u8]) -> Answer
     ensures { λ answer. ⌜ Opens s (now (list .entry)) (now (symbols .entry)) len (now (transcript .entry)) (now (transcript .exit)) answer ⌝ }
 {
     match judge_open(s, list, symbols, len, transcript.len()) {
