@@ -8,6 +8,7 @@ const PACKED: usize = 256;
 
 /// What a card says before its symbols.
 #[derive(Clone, Copy, Debug, PartialEq, Eq, Hash)]
+#[must_use]
 pub struct Header {
     /// The shape of the archive.
     pub shape: Shape,
@@ -28,6 +29,11 @@ impl Shape {
     /// assert_eq!(card[..length], [3, 1, 1, 1, 2, 253, 1, 247, 1, 0, 0, 0, 0, 0, 0]);
     /// # Ok::<(), hmsr::Refusal>(())
     /// ```
+    ///
+    /// # Errors
+    ///
+    /// [`Refusal::BadShape`], [`Refusal::BadNodes`], [`Refusal::Malformed`] for a length above data × N,
+    /// [`Refusal::WrongLength`], [`Refusal::BadSymbol`].
     pub fn pack(&self, node: usize, length: usize, symbols: &[u16], card: &mut [u8]) -> Result<usize, Refusal> {
         let number = ffi::pack(*self, node, length, symbols, card);
         if number < PACKED {
@@ -37,6 +43,10 @@ impl Shape {
     }
 
     /// A node's card, in a new buffer of its length.
+    ///
+    /// # Errors
+    ///
+    /// As [`Shape::pack`].
     pub fn pack_to_vec(&self, node: usize, length: usize, symbols: &[u16]) -> Result<Vec<u8>, Refusal> {
         let mut card = vec![0; self.card_room()?];
         let packed = self.pack(node, length, symbols, &mut card)?;
@@ -54,6 +64,11 @@ impl Shape {
 /// assert_eq!(symbols, [253, 247, 0, 0, 0, 0, 0, 0]);
 /// # Ok::<(), hmsr::Refusal>(())
 /// ```
+///
+/// # Errors
+///
+/// [`Refusal::Malformed`], [`Refusal::BadShape`], [`Refusal::BadNodes`], [`Refusal::WrongLength`],
+/// [`Refusal::BadSymbol`].
 pub fn unpack(card: &[u8], symbols: &mut [u16]) -> Result<Header, Refusal> {
     let mut numbers = [0; 5];
     unpack_into(card, symbols, &mut numbers)?;
@@ -62,7 +77,11 @@ pub fn unpack(card: &[u8], symbols: &mut [u16]) -> Result<Header, Refusal> {
 }
 
 /// Unpacks a card as the library's own call does, with the header as five numbers: nodes, data nodes, layers, the
-/// node, the transcript's length. A header buffer of another length is refused with [`Refusal::WrongLength`].
+/// node, the transcript's length.
+///
+/// # Errors
+///
+/// As [`unpack`], and [`Refusal::WrongLength`] for a header buffer of another length.
 pub fn unpack_into(card: &[u8], symbols: &mut [u16], header: &mut [usize]) -> Result<(), Refusal> {
     answer(ffi::unpack(card, symbols, header))
 }
@@ -77,6 +96,10 @@ pub fn unpack_into(card: &[u8], symbols: &mut [u16], header: &mut [usize]) -> Re
 /// assert_eq!(unpack_to_vec(&[3, 1, 1]), Err(Refusal::Malformed));
 /// # Ok::<(), Refusal>(())
 /// ```
+///
+/// # Errors
+///
+/// As [`unpack`].
 pub fn unpack_to_vec(card: &[u8]) -> Result<(Header, Vec<u16>), Refusal> {
     let mut symbols = vec![0; symbols_announced(card)?];
     let header = unpack(card, &mut symbols)?;

@@ -42,6 +42,7 @@ impl Refusal {
     /// ```
     /// assert_eq!(hmsr::Refusal::PartBatch.number(), 3);
     /// ```
+    #[must_use]
     pub fn number(self) -> usize {
         self as usize
     }
@@ -53,6 +54,7 @@ impl Refusal {
     /// assert_eq!(Refusal::from_number(7), Some(Refusal::NoTranscript));
     /// assert_eq!(Refusal::from_number(0), None);
     /// ```
+    #[must_use]
     pub fn from_number(number: usize) -> Option<Refusal> {
         Self::ALL.into_iter().find(|cause| cause.number() == number)
     }
