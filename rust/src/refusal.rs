@@ -70,7 +70,7 @@ impl fmt::Display for Refusal {
             Refusal::BadSymbol => "a symbol is above 256",
             Refusal::Malformed => "the card or the input is malformed",
             Refusal::NoTranscript => "the symbols are not those of a transcript of that length",
-            Refusal::ZeroDivisor => "solving met a zero divisor",
+            Refusal::ZeroDivisor => "solving met a zero divisor (never happens)",
         })
     }
 }
