@@ -12,7 +12,8 @@
  * A call returns 0 where it did its work, and otherwise the number of the first cause for which it turned back, except where its
  * comment says so. Where it turned back, every buffer is as it was.
  *
- * From top to bottom: the version, the refusals, the sizes of buffers, the calls. For C99 or later, or C++.
+ * From top to bottom: the version, the refusals and their texts, the sizes of buffers, and the calls. The calls are the library's; the
+ * functions before them are C for C99 or later, or C++.
  */
 #ifndef HMSR_H
 #define HMSR_H
@@ -29,7 +30,7 @@ extern "C" {
 #define HMSR_VERSION_MINOR 1
 #define HMSR_VERSION_PATCH 0
 
-/* The refusals, which are the causes for which calls turn back. */
+/* The refusals, that is, the causes for which calls turn back. The comments of the calls name them by their numbers. */
 
 /* n outside 3 to 12, k outside 1 to n-2, or layers outside 1 to 15. */
 #define HMSR_BAD_SHAPE 1
@@ -72,16 +73,17 @@ static inline const char *hmsr_refusal_text(size_t number) {
     }
 }
 
-/* The sizes of buffers. Each function takes any numbers, and gives 0 where there is no such size: where n, k or layers is outside its
- * range, and, where it takes h, the number of dead nodes, also where h is not 1 to n-k-1 or does not allow the layers (3). */
+/* The sizes of buffers. Each function takes any numbers, and gives 0 where they are out of range. */
 
-/* N = layers * 2^n, the symbols of a node. All nodes have n * N, and a transcript has at most k * N bytes. */
+/* N = layers * 2^n, the symbols of a node; 0 where a call would turn back with 1. All nodes have n * N symbols, and a transcript at most
+ * k * N bytes. */
 static inline size_t hmsr_node_symbols(size_t n, size_t k, size_t layers) {
     if (n < 3 || n > 12 || k < 1 || k > n - 2 || layers < 1 || layers > 15) return 0;
     return layers << n;
 }
 
-/* N/(h+1), the symbols of a message in a repair of h dead nodes. */
+/* N/(h+1), the symbols of a message in a repair of h dead nodes; 0 where N is 0, h is not 1 to n-k-1, or layers is not a multiple of
+ * s (see HMSR_PART_BATCH). */
 static inline size_t hmsr_message_symbols(size_t n, size_t k, size_t layers, size_t h) {
     size_t symbols = hmsr_node_symbols(n, k, layers), s;
     if (symbols == 0 || h < 1 || h > n - k - 1) return 0;
@@ -89,13 +91,13 @@ static inline size_t hmsr_message_symbols(size_t n, size_t k, size_t layers, siz
     return layers % s == 0 ? symbols / (h + 1) : 0;
 }
 
-/* h * (k+h) * N/(h+1), the symbols of the wire, which has every message of a repair of h dead nodes. */
+/* h * (k+h) * N/(h+1), the symbols of the wire, which has every message of that repair; 0 where a message's symbols are 0. */
 static inline size_t hmsr_wire_symbols(size_t n, size_t k, size_t layers, size_t h) {
     size_t message = hmsr_message_symbols(n, k, layers, h);
     return message == 0 ? 0 : h * (k + h) * message;
 }
 
-/* 15 + 2 * N, the bytes of the buffer that a card is packed into. */
+/* 15 + 2 * N, the bytes of the buffer that a card is packed into; 0 where N is 0. */
 static inline size_t hmsr_card_room(size_t n, size_t k, size_t layers) {
     size_t symbols = hmsr_node_symbols(n, k, layers);
     return symbols == 0 ? 0 : 15 + 2 * symbols;

@@ -21,7 +21,7 @@
 //! assert_eq!(transcript, b"the witness was sworn");
 //! # Ok::<(), hmsr::Refusal>(())
 //! ```
-#![warn(missing_docs)]
+#![warn(missing_docs, clippy::missing_errors_doc)]
 #![deny(unsafe_code, unsafe_op_in_unsafe_fn)]
 
 mod card;
