@@ -12,15 +12,8 @@
  * A call returns 0 where it did its work, and otherwise the number of the first cause for which it turned back, except where its
  * comment says so. Where it turned back, every buffer is as it was.
  *
- *   1  n outside 3 to 12, k outside 1 to n-2, or layers outside 1 to 15
- *   2  a node not below n; a list not strictly rising, or of the wrong count; dead nodes fewer than 1 or more than n-k-1, or dead and
- *      helpers overlapping; a new node that is not in the dead list, or a helper that is not in the helper list
- *   3  layers not a multiple of s, where h dead nodes make h+1 = s * 2^m with s odd
- *   4  a buffer not of the exact length, or, outside cards, a transcript length above k * N
- *   5  a symbol handed in is above 256 (hmsr_repair looks at the helpers' symbols only)
- *   6  a card malformed
- *   7  opening: the symbols are not those of a transcript of that length
- *   8  solving met a zero divisor (never happens)
+ * From top to bottom: the version, the refusals and their texts, the sizes of buffers, and the calls. The calls are the library's; the
+ * functions before them are C for C99 or later, or C++.
  */
 #ifndef HMSR_H
 #define HMSR_H
@@ -32,11 +25,91 @@
 extern "C" {
 #endif
 
-/* The least length of a text buffer of hmsr_plan. */
-#define HMSR_PLAN_TEXT 1339
+#define HMSR_VERSION "0.1.0"
+#define HMSR_VERSION_MAJOR 0
+#define HMSR_VERSION_MINOR 1
+#define HMSR_VERSION_PATCH 0
+
+/* The refusals, that is, the causes for which calls turn back. The comments of the calls name them by their numbers. */
+
+/* n outside 3 to 12, k outside 1 to n-2, or layers outside 1 to 15. */
+#define HMSR_BAD_SHAPE 1
+
+/* A node not below n; a list not strictly rising, or of the wrong count; dead nodes fewer than 1 or more than n-k-1, or dead and helpers
+ * overlapping; a new node that is not in the dead list, or a helper that is not in the helper list. */
+#define HMSR_BAD_NODES 2
+
+/* layers not a multiple of s, where h dead nodes make h+1 = s * 2^m with s odd. */
+#define HMSR_PART_BATCH 3
+
+/* A buffer not of the exact length, or, outside cards, a transcript length above k * N. */
+#define HMSR_WRONG_LENGTH 4
+
+/* A symbol handed in is above 256 (hmsr_repair looks at the helpers' symbols only). */
+#define HMSR_BAD_SYMBOL 5
+
+/* A card, or the input of a plan, malformed. */
+#define HMSR_MALFORMED 6
+
+/* Opening: the symbols are not those of a transcript of that length. */
+#define HMSR_NO_TRANSCRIPT 7
+
+/* Solving met a zero divisor (never happens). */
+#define HMSR_ZERO_DIVISOR 8
+
+/* A refusal's cause in words, on one line without a line end. 0 and numbers that are no refusal's have a fixed text of their own. */
+static inline const char *hmsr_refusal_text(size_t number) {
+    switch (number) {
+    case 0: return "no refusal";
+    case HMSR_BAD_SHAPE: return "there must be 3 to 12 nodes, 1 to nodes - 2 data nodes and 1 to 15 layers";
+    case HMSR_BAD_NODES: return "the node lists are not as they should be";
+    case HMSR_PART_BATCH: return "the number of layers is not a multiple of the layers of a batch";
+    case HMSR_WRONG_LENGTH: return "a buffer is not of the exact length, or the transcript is too long";
+    case HMSR_BAD_SYMBOL: return "a symbol is above 256";
+    case HMSR_MALFORMED: return "the card or the input is malformed";
+    case HMSR_NO_TRANSCRIPT: return "the symbols are not those of a transcript of that length";
+    case HMSR_ZERO_DIVISOR: return "solving met a zero divisor (never happens)";
+    default: return "not the number of a refusal";
+    }
+}
+
+/* The sizes of buffers. Each function takes any numbers, and gives 0 where they are out of range. */
+
+/* N = layers * 2^n, the symbols of a node; 0 where a call would turn back with 1. All nodes have n * N symbols, and a transcript at most
+ * k * N bytes. */
+static inline size_t hmsr_node_symbols(size_t n, size_t k, size_t layers) {
+    if (n < 3 || n > 12 || k < 1 || k > n - 2 || layers < 1 || layers > 15) return 0;
+    return layers << n;
+}
+
+/* N/(h+1), the symbols of a message in a repair of h dead nodes; 0 where N is 0, h is not 1 to n-k-1, or layers is not a multiple of
+ * s (see HMSR_PART_BATCH). */
+static inline size_t hmsr_message_symbols(size_t n, size_t k, size_t layers, size_t h) {
+    size_t symbols = hmsr_node_symbols(n, k, layers), s;
+    if (symbols == 0 || h < 1 || h > n - k - 1) return 0;
+    for (s = h + 1; s % 2 == 0; s /= 2) {}
+    return layers % s == 0 ? symbols / (h + 1) : 0;
+}
+
+/* h * (k+h) * N/(h+1), the symbols of the wire, which has every message of that repair; 0 where a message's symbols are 0. */
+static inline size_t hmsr_wire_symbols(size_t n, size_t k, size_t layers, size_t h) {
+    size_t message = hmsr_message_symbols(n, k, layers, h);
+    return message == 0 ? 0 : h * (k + h) * message;
+}
+
+/* 15 + 2 * N, the bytes of the buffer that a card is packed into; 0 where N is 0. */
+static inline size_t hmsr_card_room(size_t n, size_t k, size_t layers) {
+    size_t symbols = hmsr_node_symbols(n, k, layers);
+    return symbols == 0 ? 0 : 15 + 2 * symbols;
+}
 
 /* The length of a header buffer of hmsr_unpack: n, k, layers, node, length. */
 #define HMSR_HEADER 5
+
+/* The least length of a text buffer of hmsr_plan. */
+#define HMSR_PLAN_TEXT 1339
+
+/* The calls. */
 
 /* Writes a transcript of at most k * N bytes into n * N symbols. Turns back with 1, 4. */
 size_t hmsr_write(size_t n, size_t k, size_t layers,

@@ -8,7 +8,7 @@
 #[path = "../tests/naive/mod.rs"]
 mod naive;
 
-use hmsr::Shape;
+use hmsr::{Repair, Shape};
 use naive::random::Random;
 use std::hint::black_box;
 use std::time::{Duration, Instant};
@@ -199,6 +199,7 @@ fn bench_repair(table: &mut Table, written: &Written, choice: &Choice) {
     let Written { shape, plain, nodes, .. } = written;
     let Choice { dead, helpers, length } = choice;
     let (h, size) = (dead.len(), plain.symbols());
+    let repair = Repair { shape: *shape, dead, helpers };
     let wire_length = h * (plain.k + h) * length;
     let mut all = nodes.clone();
     let mut wire = vec![0; wire_length];
@@ -206,7 +207,7 @@ fn bench_repair(table: &mut Table, written: &Written, choice: &Choice) {
         written.name(&format!("repair h={h}")),
         h * size,
         plain.capacity(),
-        || shape.repair(dead, helpers, black_box(&mut all), &mut wire).unwrap(),
+        || repair.repair(black_box(&mut all), &mut wire).unwrap(),
         || naive::repair(*plain, dead, helpers, black_box(nodes), wire_length).unwrap(),
     );
     assert_eq!(naive::repair(*plain, dead, helpers, nodes, wire_length).as_ref(), Ok(&(all, wire.clone())));
@@ -218,6 +219,7 @@ fn bench_steps(table: &mut Table, written: &Written, choice: &Choice, wire: &[u1
     let Written { shape, plain, .. } = written;
     let Choice { dead, helpers, length } = choice;
     let (h, size, new, helper) = (dead.len(), plain.symbols(), dead[0], helpers[0]);
+    let repair = Repair { shape: *shape, dead, helpers };
     let own = written.node(helper);
     let messages = &wire[..helpers.len() * length];
     let received = &wire[h * helpers.len() * length..][..(h - 1) * length];
@@ -227,14 +229,14 @@ fn bench_steps(table: &mut Table, written: &Written, choice: &Choice, wire: &[u1
         written.name(&format!("helper_message h={h}")),
         *length,
         size,
-        || shape.helper_message(dead, helpers, helper, new, black_box(own), &mut message).unwrap(),
+        || repair.helper_message(helper, new, black_box(own), &mut message).unwrap(),
         || naive::helper_message(*plain, dead, helpers, helper, new, black_box(own), *length).unwrap(),
     );
     table.line(
         written.name(&format!("first_step h={h}")),
         (h + 1) * length,
         size,
-        || shape.first_step(dead, helpers, new, black_box(messages), &mut pairs, &mut sums).unwrap(),
+        || repair.first_step(new, black_box(messages), &mut pairs, &mut sums).unwrap(),
         || {
             let (pairs, sums) = (2 * length, (h - 1) * length);
             naive::first_step(*plain, dead, helpers, new, black_box(messages), pairs, sums).unwrap()
@@ -244,7 +246,7 @@ fn bench_steps(table: &mut Table, written: &Written, choice: &Choice, wire: &[u1
         written.name(&format!("second_step h={h}")),
         size,
         size,
-        || shape.second_step(dead, helpers, new, black_box(&pairs), received, &mut symbols).unwrap(),
+        || repair.second_step(new, black_box(&pairs), received, &mut symbols).unwrap(),
         || naive::second_step(*plain, dead, helpers, new, black_box(&pairs), received, size).unwrap(),
     );
     assert_eq!(symbols, written.node(new));

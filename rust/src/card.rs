@@ -5,6 +5,7 @@ use crate::{Refusal, Shape};
 
 /// What a card says before its symbols.
 #[derive(Clone, Copy, Debug, PartialEq, Eq, Hash)]
+#[must_use]
 pub struct Header {
     /// The shape of the archive.
     pub shape: Shape,
@@ -25,11 +26,20 @@ impl Shape {
     /// assert_eq!(card[..length], [3, 1, 1, 1, 2, 253, 1, 247, 1, 0, 0, 0, 0, 0, 0]);
     /// # Ok::<(), hmsr::Refusal>(())
     /// ```
+    ///
+    /// # Errors
+    ///
+    /// [`Refusal::BadShape`], [`Refusal::BadNodes`], [`Refusal::Malformed`] for a length above data × N,
+    /// [`Refusal::WrongLength`], [`Refusal::BadSymbol`].
     pub fn pack(&self, node: usize, length: usize, symbols: &[u16], card: &mut [u8]) -> Result<usize, Refusal> {
         found(ffi::pack(*self, node, length, symbols, card))
     }
 
     /// A node's card, in a new buffer of its length.
+    ///
+    /// # Errors
+    ///
+    /// As [`Shape::pack`].
     pub fn pack_to_vec(&self, node: usize, length: usize, symbols: &[u16]) -> Result<Vec<u8>, Refusal> {
         let mut card = vec![0; self.card_room()?];
         let packed = self.pack(node, length, symbols, &mut card)?;
@@ -47,6 +57,11 @@ impl Shape {
 /// assert_eq!(symbols, [253, 247, 0, 0, 0, 0, 0, 0]);
 /// # Ok::<(), hmsr::Refusal>(())
 /// ```
+///
+/// # Errors
+///
+/// [`Refusal::Malformed`], [`Refusal::BadShape`], [`Refusal::BadNodes`], [`Refusal::WrongLength`],
+/// [`Refusal::BadSymbol`].
 pub fn unpack(card: &[u8], symbols: &mut [u16]) -> Result<Header, Refusal> {
     let mut numbers = [0; 5];
     unpack_into(card, symbols, &mut numbers)?;
@@ -55,7 +70,11 @@ pub fn unpack(card: &[u8], symbols: &mut [u16]) -> Result<Header, Refusal> {
 }
 
 /// Unpacks a card as the library's own call does, with the header as five numbers: nodes, data nodes, layers, the
-/// node, the transcript's length. A header buffer of another length is refused with [`Refusal::WrongLength`].
+/// node, the transcript's length.
+///
+/// # Errors
+///
+/// As [`unpack`], and [`Refusal::WrongLength`] for a header buffer of another length.
 pub fn unpack_into(card: &[u8], symbols: &mut [u16], header: &mut [usize]) -> Result<(), Refusal> {
     answer(ffi::unpack(card, symbols, header))
 }
@@ -70,6 +89,10 @@ pub fn unpack_into(card: &[u8], symbols: &mut [u16], header: &mut [usize]) -> Re
 /// assert_eq!(unpack_to_vec(&[3, 1, 1]), Err(Refusal::Malformed));
 /// # Ok::<(), Refusal>(())
 /// ```
+///
+/// # Errors
+///
+/// As [`unpack`].
 pub fn unpack_to_vec(card: &[u8]) -> Result<(Header, Vec<u16>), Refusal> {
     let mut symbols = vec![0; symbols_announced(card)?];
     let header = unpack(card, &mut symbols)?;

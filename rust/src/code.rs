@@ -6,8 +6,16 @@ use crate::{Refusal, Shape};
 /// Where the numbers of unmet equations begin in the check's answer.
 const UNMET: usize = 256;
 
-/// What the check of all nodes answers.
-#[derive(Clone, Copy, Debug, PartialEq, Eq)]
+/// What the check of all nodes answers. That a check was made says nothing: its answer has to be looked at.
+///
+/// ```compile_fail
+/// #![deny(unused_must_use)]
+/// # let shape = hmsr::Shape::new(3, 1, 1)?;
+/// shape.check(&[0; 24])?;
+/// # Ok::<(), hmsr::Refusal>(())
+/// ```
+#[derive(Clone, Copy, Debug, PartialEq, Eq, Hash)]
+#[must_use = "an unmet equation is an answer, not a refusal"]
 pub enum Checked {
     /// Every parity equation is met.
     Sound,
@@ -34,11 +42,19 @@ impl Shape {
     /// assert_eq!(nodes[16..], [1, 4, 0, 0, 0, 0, 0, 0]);
     /// # Ok::<(), hmsr::Refusal>(())
     /// ```
+    ///
+    /// # Errors
+    ///
+    /// [`Refusal::BadShape`], [`Refusal::WrongLength`].
     pub fn write(&self, transcript: &[u8], nodes: &mut [u16]) -> Result<(), Refusal> {
         answer(ffi::write(*self, transcript, nodes))
     }
 
     /// All nodes of the transcript, in a new buffer.
+    ///
+    /// # Errors
+    ///
+    /// As [`Shape::write`].
     pub fn write_to_nodes(&self, transcript: &[u8]) -> Result<Vec<u16>, Refusal> {
         let mut nodes = vec![0; self.archive_symbols()?];
         self.write(transcript, &mut nodes)?;
@@ -56,6 +72,11 @@ impl Shape {
     /// assert_eq!(shape.check(&nodes)?, Checked::Unmet { layer: 0, a: 1, t: 0 });
     /// # Ok::<(), hmsr::Refusal>(())
     /// ```
+    ///
+    /// # Errors
+    ///
+    /// [`Refusal::BadShape`], [`Refusal::WrongLength`], [`Refusal::BadSymbol`]. An equation that is not met is no
+    /// error, but [`Checked::Unmet`].
     pub fn check(&self, nodes: &[u16]) -> Result<Checked, Refusal> {
         let number = ffi::check(*self, nodes);
         if number == 0 {
@@ -83,11 +104,19 @@ impl Shape {
     /// assert_eq!(nodes[..2], [3, 6]);
     /// # Ok::<(), hmsr::Refusal>(())
     /// ```
+    ///
+    /// # Errors
+    ///
+    /// [`Refusal::BadShape`], [`Refusal::BadNodes`], [`Refusal::WrongLength`], [`Refusal::BadSymbol`].
     pub fn restore(&self, list: &[usize], symbols: &[u16], nodes: &mut [u16]) -> Result<(), Refusal> {
         answer(ffi::restore(*self, list, symbols, nodes))
     }
 
     /// All nodes, from the k that are listed, in a new buffer.
+    ///
+    /// # Errors
+    ///
+    /// As [`Shape::restore`].
     pub fn restore_nodes(&self, list: &[usize], symbols: &[u16]) -> Result<Vec<u16>, Refusal> {
         let mut nodes = vec![0; self.archive_symbols()?];
         self.restore(list, symbols, &mut nodes)?;
@@ -105,11 +134,20 @@ impl Shape {
     /// assert_eq!(shape.open(&[1], &[87, 0, 0, 0, 0, 0, 0, 0], 1, &mut [0]), Err(Refusal::NoTranscript));
     /// # Ok::<(), hmsr::Refusal>(())
     /// ```
+    ///
+    /// # Errors
+    ///
+    /// [`Refusal::BadShape`], [`Refusal::BadNodes`], [`Refusal::WrongLength`], [`Refusal::BadSymbol`],
+    /// [`Refusal::NoTranscript`].
     pub fn open(&self, list: &[usize], symbols: &[u16], length: usize, transcript: &mut [u8]) -> Result<(), Refusal> {
         answer(ffi::open(*self, list, symbols, length, transcript))
     }
 
     /// The transcript of that length, in a new buffer.
+    ///
+    /// # Errors
+    ///
+    /// As [`Shape::open`].
     pub fn open_to_vec(&self, list: &[usize], symbols: &[u16], length: usize) -> Result<Vec<u8>, Refusal> {
         // A length above the capacity is refused whatever is lent, so nothing is.
         let room = if length <= self.capacity()? { length } else { 0 };

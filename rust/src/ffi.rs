@@ -3,7 +3,7 @@
 //! Why each is safe: every pointer and the length behind it come from one slice, so it is valid for that many elements
 //! for the whole call, aligned and not null (empty slices too); `&mut` slices overlap nothing else that is handed in;
 //! and the functions are proved to read and write only within the buffers they are lent, on all numbers, and keep none.
-use crate::Shape;
+use crate::{Repair, Shape};
 
 extern "C" {
     fn hmsr_write(
@@ -95,19 +95,17 @@ pub(crate) fn open(s: Shape, list: &[usize], symbols: &[u16], length: usize, tra
     }
 }
 
-pub(crate) fn helper_message(
-    s: Shape, dead: &[usize], helpers: &[usize], helper: usize, new_node: usize, symbols: &[u16], message: &mut [u16],
-) -> usize {
+pub(crate) fn helper_message(r: Repair, helper: usize, new_node: usize, symbols: &[u16], message: &mut [u16]) -> usize {
     // SAFETY: see the top of this file.
     unsafe {
         hmsr_helper_message(
-            s.nodes,
-            s.data,
-            s.layers,
-            dead.as_ptr(),
-            dead.len(),
-            helpers.as_ptr(),
-            helpers.len(),
+            r.shape.nodes,
+            r.shape.data,
+            r.shape.layers,
+            r.dead.as_ptr(),
+            r.dead.len(),
+            r.helpers.as_ptr(),
+            r.helpers.len(),
             helper,
             new_node,
             symbols.as_ptr(),
@@ -118,19 +116,17 @@ pub(crate) fn helper_message(
     }
 }
 
-pub(crate) fn first_step(
-    s: Shape, dead: &[usize], helpers: &[usize], new_node: usize, messages: &[u16], pairs: &mut [u16], sums: &mut [u16],
-) -> usize {
+pub(crate) fn first_step(r: Repair, new_node: usize, messages: &[u16], pairs: &mut [u16], sums: &mut [u16]) -> usize {
     // SAFETY: see the top of this file.
     unsafe {
         hmsr_first_step(
-            s.nodes,
-            s.data,
-            s.layers,
-            dead.as_ptr(),
-            dead.len(),
-            helpers.as_ptr(),
-            helpers.len(),
+            r.shape.nodes,
+            r.shape.data,
+            r.shape.layers,
+            r.dead.as_ptr(),
+            r.dead.len(),
+            r.helpers.as_ptr(),
+            r.helpers.len(),
             new_node,
             messages.as_ptr(),
             messages.len(),
@@ -142,19 +138,17 @@ pub(crate) fn first_step(
     }
 }
 
-pub(crate) fn second_step(
-    s: Shape, dead: &[usize], helpers: &[usize], new_node: usize, pairs: &[u16], received: &[u16], symbols: &mut [u16],
-) -> usize {
+pub(crate) fn second_step(r: Repair, new_node: usize, pairs: &[u16], received: &[u16], symbols: &mut [u16]) -> usize {
     // SAFETY: see the top of this file.
     unsafe {
         hmsr_second_step(
-            s.nodes,
-            s.data,
-            s.layers,
-            dead.as_ptr(),
-            dead.len(),
-            helpers.as_ptr(),
-            helpers.len(),
+            r.shape.nodes,
+            r.shape.data,
+            r.shape.layers,
+            r.dead.as_ptr(),
+            r.dead.len(),
+            r.helpers.as_ptr(),
+            r.helpers.len(),
             new_node,
             pairs.as_ptr(),
             pairs.len(),
@@ -166,17 +160,17 @@ pub(crate) fn second_step(
     }
 }
 
-pub(crate) fn repair(s: Shape, dead: &[usize], helpers: &[usize], nodes: &mut [u16], wire: &mut [u16]) -> usize {
+pub(crate) fn repair(r: Repair, nodes: &mut [u16], wire: &mut [u16]) -> usize {
     // SAFETY: see the top of this file.
     unsafe {
         hmsr_repair(
-            s.nodes,
-            s.data,
-            s.layers,
-            dead.as_ptr(),
-            dead.len(),
-            helpers.as_ptr(),
-            helpers.len(),
+            r.shape.nodes,
+            r.shape.data,
+            r.shape.layers,
+            r.dead.as_ptr(),
+            r.dead.len(),
+            r.helpers.as_ptr(),
+            r.helpers.len(),
             nodes.as_mut_ptr(),
             nodes.len(),
             wire.as_mut_ptr(),
@@ -205,14 +199,7 @@ pub(crate) fn pack(s: Shape, node: usize, length: usize, symbols: &[u16], card: 
 pub(crate) fn unpack(card: &[u8], symbols: &mut [u16], header: &mut [usize]) -> usize {
     // SAFETY: see the top of this file.
     unsafe {
-        hmsr_unpack(
-            card.as_ptr(),
-            card.len(),
-            symbols.as_mut_ptr(),
-            symbols.len(),
-            header.as_mut_ptr(),
-            header.len(),
-        )
+        hmsr_unpack(card.as_ptr(), card.len(), symbols.as_mut_ptr(), symbols.len(), header.as_mut_ptr(), header.len())
     }
 }
 

@@ -9,18 +9,19 @@
 //! behind the other in a buffer of nodes × N.
 //!
 //! ```
-//! use hmsr::Shape;
+//! use hmsr::{Repair, Shape};
 //!
 //! let shape = Shape::new(4, 1, 3)?;
 //! let mut nodes = shape.write_to_nodes(b"the witness was sworn")?;
 //! let n = shape.node_symbols()?;
 //! nodes[..2 * n].fill(0); // nodes 0 and 1 are lost
-//! shape.repair_nodes(&[0, 1], &[2, 3], &mut nodes)?; // nodes 2 and 3 help
+//! let repair = Repair { shape, dead: &[0, 1], helpers: &[2, 3] }; // nodes 2 and 3 help
+//! repair.repair_nodes(&mut nodes)?;
 //! let transcript = shape.open_to_vec(&[0], &nodes[..n], 21)?; // from node 0 alone
 //! assert_eq!(transcript, b"the witness was sworn");
 //! # Ok::<(), hmsr::Refusal>(())
 //! ```
-#![warn(missing_docs)]
+#![warn(missing_docs, clippy::missing_errors_doc)]
 #![deny(unsafe_code, unsafe_op_in_unsafe_fn)]
 
 mod card;
@@ -36,4 +37,5 @@ pub use card::{unpack, unpack_into, unpack_to_vec, Header};
 pub use code::Checked;
 pub use plan::{plan, plan_input, plan_text, PLAN_TEXT};
 pub use refusal::Refusal;
+pub use repair::{FirstStep, Repair};
 pub use shape::Shape;

@@ -42,6 +42,7 @@ impl Refusal {
     /// ```
     /// assert_eq!(hmsr::Refusal::PartBatch.number(), 3);
     /// ```
+    #[must_use]
     pub fn number(self) -> usize {
         self as usize
     }
@@ -53,6 +54,7 @@ impl Refusal {
     /// assert_eq!(Refusal::from_number(7), Some(Refusal::NoTranscript));
     /// assert_eq!(Refusal::from_number(0), None);
     /// ```
+    #[must_use]
     pub fn from_number(number: usize) -> Option<Refusal> {
         Self::ALL.into_iter().find(|cause| cause.number() == number)
     }
@@ -68,7 +70,7 @@ impl fmt::Display for Refusal {
             Refusal::BadSymbol => "a symbol is above 256",
             Refusal::Malformed => "the card or the input is malformed",
             Refusal::NoTranscript => "the symbols are not those of a transcript of that length",
-            Refusal::ZeroDivisor => "solving met a zero divisor",
+            Refusal::ZeroDivisor => "solving met a zero divisor (never happens)",
         })
     }
 }

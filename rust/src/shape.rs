@@ -5,6 +5,7 @@ use crate::Refusal;
 /// How an archive is laid out. The fields may hold anything: each call judges them, and refuses a shape outside the
 /// ranges with [`Refusal::BadShape`].
 #[derive(Clone, Copy, Debug, PartialEq, Eq, Hash)]
+#[must_use]
 pub struct Shape {
     /// n, the number of nodes: 3 to 12.
     pub nodes: usize,
@@ -22,6 +23,10 @@ impl Shape {
     /// assert!(Shape::new(12, 6, 15).is_ok());
     /// assert_eq!(Shape::new(12, 11, 15), Err(Refusal::BadShape));
     /// ```
+    ///
+    /// # Errors
+    ///
+    /// [`Refusal::BadShape`].
     pub fn new(nodes: usize, data: usize, layers: usize) -> Result<Shape, Refusal> {
         let shape = Shape { nodes, data, layers };
         shape.judge().map(|()| shape)
@@ -37,12 +42,20 @@ impl Shape {
     }
 
     /// N = layers × 2^nodes, the symbols of a node: at most 61 440.
+    ///
+    /// # Errors
+    ///
+    /// [`Refusal::BadShape`].
     pub fn node_symbols(&self) -> Result<usize, Refusal> {
         self.judge()?;
         Ok(self.layers << self.nodes)
     }
 
     /// nodes × N, the symbols of all nodes.
+    ///
+    /// # Errors
+    ///
+    /// [`Refusal::BadShape`].
     pub fn archive_symbols(&self) -> Result<usize, Refusal> {
         Ok(self.nodes * self.node_symbols()?)
     }
@@ -52,11 +65,19 @@ impl Shape {
     /// ```
     /// assert_eq!(hmsr::Shape { nodes: 12, data: 6, layers: 15 }.capacity(), Ok(368_640));
     /// ```
+    ///
+    /// # Errors
+    ///
+    /// [`Refusal::BadShape`].
     pub fn capacity(&self) -> Result<usize, Refusal> {
         Ok(self.data * self.node_symbols()?)
     }
 
     /// 15 + 2 × N, the bytes of the buffer that a card is packed into.
+    ///
+    /// # Errors
+    ///
+    /// [`Refusal::BadShape`].
     pub fn card_room(&self) -> Result<usize, Refusal> {
         Ok(15 + 2 * self.node_symbols()?)
     }
@@ -67,6 +88,10 @@ impl Shape {
     /// let shape = hmsr::Shape { nodes: 12, data: 6, layers: 15 };
     /// assert_eq!((1..6).map(|h| shape.batch_layers(h).unwrap()).collect::<Vec<_>>(), [1, 3, 1, 5, 3]);
     /// ```
+    ///
+    /// # Errors
+    ///
+    /// [`Refusal::BadShape`]; [`Refusal::BadNodes`] where h is not 1 to nodes - data - 1.
     pub fn batch_layers(&self, dead_count: usize) -> Result<usize, Refusal> {
         self.judge()?;
         if !(1..self.nodes - self.data).contains(&dead_count) {
@@ -77,6 +102,10 @@ impl Shape {
     }
 
     /// N/(h+1), the symbols of each message in a repair of h dead nodes.
+    ///
+    /// # Errors
+    ///
+    /// [`Refusal::BadShape`]; [`Refusal::BadNodes`] where h is not 1 to nodes - data - 1; [`Refusal::PartBatch`].
     pub fn message_symbols(&self, dead_count: usize) -> Result<usize, Refusal> {
         if !self.layers.is_multiple_of(self.batch_layers(dead_count)?) {
             return Err(Refusal::PartBatch);
@@ -89,6 +118,10 @@ impl Shape {
     /// ```
     /// assert_eq!(hmsr::Shape { nodes: 4, data: 1, layers: 3 }.wire_symbols(2), Ok(96));
     /// ```
+    ///
+    /// # Errors
+    ///
+    /// As [`Shape::message_symbols`].
     pub fn wire_symbols(&self, dead_count: usize) -> Result<usize, Refusal> {
         Ok(dead_count * (self.data + dead_count) * self.message_symbols(dead_count)?)
     }

@@ -28,8 +28,9 @@ impl Repair {
         Repair { shape, dead: dead.to_vec(), helpers: helpers.to_vec(), before }
     }
 
-    fn library(&self) -> hmsr::Shape {
-        hmsr::Shape { nodes: self.shape.n, data: self.shape.k, layers: self.shape.layers }
+    fn library(&self) -> hmsr::Repair<'_> {
+        let shape = hmsr::Shape { nodes: self.shape.n, data: self.shape.k, layers: self.shape.layers };
+        hmsr::Repair { shape, dead: &self.dead, helpers: &self.helpers }
     }
 
     /// N/(h+1).
@@ -47,7 +48,7 @@ impl Repair {
         let size = self.shape.symbols();
         let mut nodes = Lent::around(&self.before);
         let mut wire = Lent::symbols(random, self.wire_length());
-        self.library().repair(&self.dead, &self.helpers, nodes.slice(), wire.slice()).unwrap();
+        self.library().repair(nodes.slice(), wire.slice()).unwrap();
         let after = (nodes.slice().to_vec(), wire.slice().to_vec());
         for node in (0..self.shape.n).filter(|node| !self.dead.contains(node)) {
             assert!(after.0[node * size..(node + 1) * size] == self.before[node * size..(node + 1) * size]);
@@ -70,7 +71,7 @@ impl Repair {
             self.assert_sent(rank, &sums, wire);
             let received = self.received(rank, wire);
             let mut symbols = random.garbage(self.shape.symbols());
-            self.library().second_step(&self.dead, &self.helpers, new, &pairs, received, &mut symbols).unwrap();
+            self.library().second_step(new, &pairs, received, &mut symbols).unwrap();
             assert!(symbols == nodes[new * symbols.len()..(new + 1) * symbols.len()]);
         }
     }
@@ -81,7 +82,7 @@ impl Repair {
             let own = &self.before[helper * size..(helper + 1) * size];
             let mut message = random.garbage(self.message_length());
             let new = self.dead[rank];
-            self.library().helper_message(&self.dead, &self.helpers, helper, new, own, &mut message).unwrap();
+            self.library().helper_message(helper, new, own, &mut message).unwrap();
             assert!(message == self.piece(wire, rank * self.helpers.len() + index));
         }
     }
@@ -94,7 +95,7 @@ impl Repair {
         let mut sums = random.garbage((self.dead.len() - 1) * length);
         let messages = &wire[rank * all..(rank + 1) * all];
         let new = self.dead[rank];
-        self.library().first_step(&self.dead, &self.helpers, new, messages, &mut pairs, &mut sums).unwrap();
+        self.library().first_step(new, messages, &mut pairs, &mut sums).unwrap();
         (pairs, sums)
     }
 

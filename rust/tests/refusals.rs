@@ -3,7 +3,7 @@
 
 mod naive;
 
-use hmsr::{Checked, Refusal, Shape};
+use hmsr::{Checked, Refusal, Repair, Shape};
 use naive::lent::Lent;
 use naive::random::Random;
 
@@ -28,6 +28,12 @@ struct Input {
     received: Vec<u16>,
     lent: usize,
     lent_too: usize,
+}
+
+impl Input {
+    fn repair(&self) -> Repair<'_> {
+        Repair { shape: self.shape, dead: &self.dead, helpers: &self.helpers }
+    }
 }
 
 /// Accepted by each call once its symbols and lent lengths are put in. Node 3 neither is dead nor helps.
@@ -295,7 +301,7 @@ fn helper_message() {
     let causes = [SHAPE, DEAD_AND_HELPERS, NEW_NODE, HELPER, LAYERS, SYMBOLS_LENGTH, LENT_LENGTH, SYMBOLS];
     try_causes(input, &in_order(&causes), |i| {
         let mut message = garbage(i.lent);
-        let answer = i.shape.helper_message(&i.dead, &i.helpers, i.helper, i.new, &i.symbols, message.slice());
+        let answer = i.repair().helper_message(i.helper, i.new, &i.symbols, message.slice());
         judged(answer, [message])
     });
 }
@@ -308,7 +314,7 @@ fn first_step() {
     let causes = [SHAPE, DEAD_AND_HELPERS, NEW_NODE, LAYERS, &lengths, SYMBOLS];
     try_causes(input, &in_order(&causes), |i| {
         let (mut pairs, mut sums) = (garbage(i.lent), garbage(i.lent_too));
-        let answer = i.shape.first_step(&i.dead, &i.helpers, i.new, &i.symbols, pairs.slice(), sums.slice());
+        let answer = i.repair().first_step(i.new, &i.symbols, pairs.slice(), sums.slice());
         judged(answer, [pairs, sums])
     });
 }
@@ -321,7 +327,7 @@ fn second_step() {
     let causes = [SHAPE, DEAD_AND_HELPERS, NEW_NODE, LAYERS, &lengths, SYMBOLS, RECEIVED];
     try_causes(input, &in_order(&causes), |i| {
         let mut symbols = garbage(i.lent);
-        let answer = i.shape.second_step(&i.dead, &i.helpers, i.new, &i.symbols, &i.received, symbols.slice());
+        let answer = i.repair().second_step(i.new, &i.symbols, &i.received, symbols.slice());
         judged(answer, [symbols])
     });
 }
@@ -337,7 +343,7 @@ fn repair() {
     let causes = [SHAPE, DEAD_AND_HELPERS, LAYERS, SYMBOLS_LENGTH, LENT_LENGTH, SYMBOLS];
     try_causes(input, &in_order(&causes), |i| {
         let (mut nodes, mut wire) = (Lent::around(&i.symbols), garbage(i.lent));
-        let answer = i.shape.repair(&i.dead, &i.helpers, nodes.slice(), wire.slice());
+        let answer = i.repair().repair(nodes.slice(), wire.slice());
         judged(answer, [nodes, wire])
     });
 }

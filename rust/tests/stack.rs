@@ -125,6 +125,10 @@ impl<'a> Repair<'a> {
         Repair { archive, dead: (0..dead).collect(), helpers: (dead..dead + archive.shape.data + 1).collect() }
     }
 
+    fn library(&self) -> hmsr::Repair<'_> {
+        hmsr::Repair { shape: self.archive.shape, dead: &self.dead, helpers: &self.helpers }
+    }
+
     fn message_symbols(&self) -> usize {
         self.archive.shape.message_symbols(self.dead.len()).unwrap()
     }
@@ -135,9 +139,7 @@ impl<'a> Repair<'a> {
         let mut messages = vec![7; self.helpers.len() * size];
         for (&helper, message) in self.helpers.iter().zip(messages.chunks_exact_mut(size)) {
             let own = self.archive.node(helper);
-            let (dead, helpers) = (&self.dead, &self.helpers);
-            let call = || self.archive.shape.helper_message(dead, helpers, helper, new_node, own, message);
-            with_little_stack("helper_message", call);
+            with_little_stack("helper_message", || self.library().helper_message(helper, new_node, own, message));
         }
         messages
     }
@@ -146,9 +148,7 @@ impl<'a> Repair<'a> {
         let size = self.message_symbols();
         let mut pairs = vec![7; 2 * size];
         let mut sums = vec![7; (self.dead.len() - 1) * size];
-        let (dead, helpers) = (&self.dead, &self.helpers);
-        let call = || self.archive.shape.first_step(dead, helpers, new_node, messages, &mut pairs, &mut sums);
-        with_little_stack("first_step", call);
+        with_little_stack("first_step", || self.library().first_step(new_node, messages, &mut pairs, &mut sums));
         FirstStep { pairs, sums }
     }
 
@@ -165,9 +165,7 @@ impl<'a> Repair<'a> {
 
     fn second_step(&self, new_node: usize, pairs: &[u16], received: &[u16]) -> Vec<u16> {
         let mut symbols = vec![7; self.archive.node(new_node).len()];
-        let (dead, helpers) = (&self.dead, &self.helpers);
-        let call = || self.archive.shape.second_step(dead, helpers, new_node, pairs, received, &mut symbols);
-        with_little_stack("second_step", call);
+        with_little_stack("second_step", || self.library().second_step(new_node, pairs, received, &mut symbols));
         symbols
     }
 
@@ -191,7 +189,7 @@ impl<'a> Repair<'a> {
         let mut nodes = self.archive.nodes.clone();
         nodes[..self.dead.len() * shape.node_symbols().unwrap()].fill(65535);
         let mut wire = vec![7; shape.wire_symbols(self.dead.len()).unwrap()];
-        with_little_stack("repair", || shape.repair(&self.dead, &self.helpers, &mut nodes, &mut wire));
+        with_little_stack("repair", || self.library().repair(&mut nodes, &mut wire));
         assert!(nodes == self.archive.nodes);
         wire
     }

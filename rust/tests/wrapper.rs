@@ -1,7 +1,8 @@
 //! What the wrapper adds to the library: no length, shape or card from safe code can do harm, and the conveniences answer
 //! as the calls they wrap.
 use hmsr::{
-    plan, plan_input, plan_text, unpack, unpack_into, unpack_to_vec, Checked, Header, Refusal, Shape, PLAN_TEXT,
+    plan, plan_input, plan_text, unpack, unpack_into, unpack_to_vec, Checked, FirstStep, Header, Refusal, Repair,
+    Shape, PLAN_TEXT,
 };
 
 /// Document 01's first archive: n = 3, k = 1, L = 1, bytes 3 6.
@@ -57,10 +58,11 @@ fn empty_buffers_are_refused_for_their_length() {
     assert_eq!(SHAPE.check(&[]), Err(Refusal::WrongLength));
     assert_eq!(SHAPE.restore(&[0], &[], &mut []), wrong);
     assert_eq!(SHAPE.open(&[0], &[], 0, &mut []), wrong);
-    assert_eq!(SHAPE.helper_message(&[0], &[1, 2], 1, 0, &[], &mut []), wrong);
-    assert_eq!(SHAPE.first_step(&[0], &[1, 2], 0, &[], &mut [], &mut []), wrong);
-    assert_eq!(SHAPE.second_step(&[0], &[1, 2], 0, &[], &[], &mut []), wrong);
-    assert_eq!(SHAPE.repair(&[0], &[1, 2], &mut [], &mut []), wrong);
+    let repair = Repair { shape: SHAPE, dead: &[0], helpers: &[1, 2] };
+    assert_eq!(repair.helper_message(1, 0, &[], &mut []), wrong);
+    assert_eq!(repair.first_step(0, &[], &mut [], &mut []), wrong);
+    assert_eq!(repair.second_step(0, &[], &[], &mut []), wrong);
+    assert_eq!(repair.repair(&mut [], &mut []), wrong);
     assert_eq!(SHAPE.pack(0, 0, &[], &mut []), Err(Refusal::WrongLength));
     assert_eq!(unpack(&CARD, &mut []), Err(Refusal::WrongLength));
     assert_eq!(unpack(&[], &mut []), Err(Refusal::Malformed));
@@ -70,11 +72,13 @@ fn empty_buffers_are_refused_for_their_length() {
 
 #[test]
 fn empty_lists_are_refused() {
-    let nodes = SHAPE.write_to_nodes(&[3, 6]).unwrap();
+    let mut nodes = SHAPE.write_to_nodes(&[3, 6]).unwrap();
     assert_eq!(SHAPE.restore_nodes(&[], &[]), Err(Refusal::BadNodes));
     assert_eq!(SHAPE.open_to_vec(&[], &[], 0), Err(Refusal::BadNodes));
-    assert_eq!(SHAPE.repair_nodes(&[], &[1, 2], &mut nodes.clone()), Err(Refusal::BadNodes));
-    assert_eq!(SHAPE.repair_nodes(&[0], &[], &mut nodes.clone()), Err(Refusal::BadNodes));
+    for (dead, helpers) in [(&[][..], &[1, 2][..]), (&[0], &[])] {
+        let repair = Repair { shape: SHAPE, dead, helpers };
+        assert_eq!(repair.repair_nodes(&mut nodes), Err(Refusal::BadNodes));
+    }
 }
 
 #[test]
@@ -94,10 +98,11 @@ fn every_call_judges_every_shape() {
         judged(shape.check(&[0; 3]).map(drop));
         judged(shape.restore(&[0], &[0; 3], &mut [0; 3]));
         judged(shape.open(&[0], &[0; 3], 1, &mut [0; 1]));
-        judged(shape.helper_message(&[0], &[1, 2], 1, 0, &[0; 3], &mut [0; 3]));
-        judged(shape.first_step(&[0], &[1, 2], 0, &[0; 3], &mut [0; 3], &mut [0; 3]));
-        judged(shape.second_step(&[0], &[1, 2], 0, &[0; 3], &[0; 3], &mut [0; 3]));
-        judged(shape.repair(&[0], &[1, 2], &mut [0; 3], &mut [0; 3]));
+        let repair = Repair { shape, dead: &[0], helpers: &[1, 2] };
+        judged(repair.helper_message(1, 0, &[0; 3], &mut [0; 3]));
+        judged(repair.first_step(0, &[0; 3], &mut [0; 3], &mut [0; 3]));
+        judged(repair.second_step(0, &[0; 3], &[0; 3], &mut [0; 3]));
+        judged(repair.repair(&mut [0; 3], &mut [0; 3]));
         judged(shape.pack(0, 0, &[0; 3], &mut [0; 3]).map(drop));
     }
 }
@@ -114,7 +119,11 @@ fn conveniences_and_sizes_judge_every_shape() {
         judged(shape.write_to_nodes(&[]).map(drop));
         judged(shape.restore_nodes(&[0], &[0; 3]).map(drop));
         judged(shape.open_to_vec(&[0], &[0; 3], usize::MAX).map(drop));
-        judged(shape.repair_nodes(&[0], &[1, 2], &mut [0; 3]).map(drop));
+        let repair = Repair { shape, dead: &[0], helpers: &[1, 2] };
+        judged(repair.helper_message_to_vec(1, 0, &[0; 3]).map(drop));
+        judged(repair.first_step_to_vec(0, &[0; 3]).map(drop));
+        judged(repair.second_step_to_vec(0, &[0; 3], &[0; 3]).map(drop));
+        judged(repair.repair_nodes(&mut [0; 3]).map(drop));
         judged(shape.pack_to_vec(usize::MAX, usize::MAX, &[0; 3]).map(drop));
         for dead_count in NUMBERS {
             judged(shape.batch_layers(dead_count).map(drop));
@@ -131,6 +140,58 @@ fn a_length_above_the_capacity_takes_no_memory() {
     assert_eq!(SHAPE.open_to_vec(&[0], &nodes[..8], usize::MAX), Err(Refusal::WrongLength));
     assert_eq!(SHAPE.open_to_vec(&[3], &nodes[..8], usize::MAX), Err(Refusal::BadNodes));
     assert_eq!(SHAPE.open_to_vec(&[0], &nodes[..8], 9), Err(Refusal::WrongLength));
+}
+
+/// Symbols of all values.
+fn symbols(count: usize) -> Vec<u16> {
+    (0..count).map(|place| (place * place % 257) as u16).collect()
+}
+
+/// Holds the forms with new buffers to the calls that they wrap, which are lent buffers of the sizes of document 01: the
+/// same symbols, or the same refusal. Gives what the whole repair answers.
+fn compare_with_lent(repair: Repair) -> Result<(), Refusal> {
+    let Repair { shape, dead, helpers } = repair;
+    let (size, h) = (shape.layers << shape.nodes, dead.len());
+    let (length, others) = (size / (h + 1), h.saturating_sub(1));
+    let (helper, new_node) = (helpers.first().copied().unwrap_or(0), dead.first().copied().unwrap_or(0));
+
+    let mut message = vec![9; length];
+    let answer = repair.helper_message(helper, new_node, &symbols(size), &mut message);
+    assert_eq!(repair.helper_message_to_vec(helper, new_node, &symbols(size)), answer.map(|()| message));
+
+    let told = symbols((shape.data + 1) * length);
+    let mut step = FirstStep { pairs: vec![9; 2 * length], sums: vec![9; others * length] };
+    let answer = repair.first_step(new_node, &told, &mut step.pairs, &mut step.sums);
+    assert_eq!(repair.first_step_to_vec(new_node, &told), answer.map(|()| step.clone()));
+
+    let (received, mut own) = (symbols(others * length), vec![9; size]);
+    let answer = repair.second_step(new_node, &symbols(2 * length), &received, &mut own);
+    assert_eq!(repair.second_step_to_vec(new_node, &symbols(2 * length), &received), answer.map(|()| own));
+
+    let (mut nodes, mut wire) = (symbols(shape.nodes * size), vec![9; h * (shape.data + h) * length]);
+    let mut nodes_too = nodes.clone();
+    let answer = repair.repair(&mut nodes, &mut wire);
+    assert_eq!(repair.repair_nodes(&mut nodes_too), answer.map(|()| wire));
+    assert_eq!(nodes, nodes_too);
+    answer
+}
+
+/// Where more than one thing is wrong, such as the lists and the layers, too.
+#[test]
+fn repairs_in_new_buffers_answer_as_the_calls_do() {
+    let dead_lists: [&[usize]; 6] = [&[], &[0], &[0, 1], &[1, 0], &[0, 1, 4], &[0, usize::MAX]];
+    let helper_lists: [&[usize]; 6] = [&[], &[2], &[2, 3], &[3, 2], &[1, 2], &[2, 3, usize::MAX]];
+    let mut answers = [0; 9];
+    for (nodes, data, layers) in [(2, 1, 1), (3, 1, 1), (4, 1, 1), (4, 1, 3), (5, 1, 1), (5, 2, 3), (5, 3, 16)] {
+        for dead in dead_lists {
+            for helpers in helper_lists {
+                let answer = compare_with_lent(Repair { shape: Shape { nodes, data, layers }, dead, helpers });
+                answers[answer.err().map_or(0, Refusal::number)] += 1;
+            }
+        }
+    }
+    // Of 7 shapes 2 are bad. By hand, 1 + 2 + 3 + 3 repairs are good, and two dead nodes need 3 layers: n = 4 and n = 5.
+    assert_eq!(answers, [9, 72, 252 - 9 - 72 - 2, 2, 0, 0, 0, 0, 0]);
 }
 
 #[test]

@@ -87,7 +87,7 @@ fn repaired(cards: &Cards, dead: &[usize], helpers: &[usize]) -> Result<(Vec<u16
     let mut rest = dead;
     while !rest.is_empty() {
         let (now, later) = rest.split_at(in_one_go(shape, rest.len()));
-        shape.repair_nodes(now, helpers, &mut nodes).map_err(refused)?;
+        hmsr::Repair { shape, dead: now, helpers }.repair_nodes(&mut nodes).map_err(refused)?;
         report += &plan_described(shape, now, helpers)?;
         rest = later;
     }

@@ -74,12 +74,18 @@ pub struct Lists {
     pub helpers: Vec<usize>,
 }
 
+impl Lists {
+    fn library(&self) -> hmsr::Repair<'_> {
+        hmsr::Repair { shape: library(self.shape), dead: &self.dead, helpers: &self.helpers }
+    }
+}
+
 pub fn helper_message(
     random: &mut Random, lists: &Lists, helper: usize, new: usize, symbols: &[u16], message_length: usize,
 ) -> Number {
     let Lists { shape, dead, helpers } = lists;
     let mut message = Lent::symbols(random, message_length);
-    let answer = library(*shape).helper_message(dead, helpers, helper, new, symbols, message.slice());
+    let answer = lists.library().helper_message(helper, new, symbols, message.slice());
     let expected = naive::helper_message(*shape, dead, helpers, helper, new, symbols, message_length);
     let (number, made) = agreed(answer, expected);
     message.assert_holds(&made);
@@ -92,7 +98,7 @@ pub fn first_step(
     let Lists { shape, dead, helpers } = lists;
     let mut pairs = Lent::symbols(random, pairs_length);
     let mut sums = Lent::symbols(random, sums_length);
-    let answer = library(*shape).first_step(dead, helpers, new, messages, pairs.slice(), sums.slice());
+    let answer = lists.library().first_step(new, messages, pairs.slice(), sums.slice());
     let expected = naive::first_step(*shape, dead, helpers, new, messages, pairs_length, sums_length);
     let (number, made) = agreed(answer, expected);
     pairs.assert_holds(&made.0);
@@ -105,7 +111,7 @@ pub fn second_step(
 ) -> Number {
     let Lists { shape, dead, helpers } = lists;
     let mut symbols = Lent::symbols(random, symbols_length);
-    let answer = library(*shape).second_step(dead, helpers, new, pairs, received, symbols.slice());
+    let answer = lists.library().second_step(new, pairs, received, symbols.slice());
     let expected = naive::second_step(*shape, dead, helpers, new, pairs, received, symbols_length);
     let (number, made) = agreed(answer, expected);
     symbols.assert_holds(&made);
@@ -116,7 +122,7 @@ pub fn repair(random: &mut Random, lists: &Lists, before: &[u16], wire_length: u
     let Lists { shape, dead, helpers } = lists;
     let mut nodes = Lent::around(before);
     let mut wire = Lent::symbols(random, wire_length);
-    let answer = library(*shape).repair(dead, helpers, nodes.slice(), wire.slice());
+    let answer = lists.library().repair(nodes.slice(), wire.slice());
     let (number, made) = agreed(answer, naive::repair(*shape, dead, helpers, before, wire_length));
     nodes.assert_holds(&made.0);
     wire.assert_holds(&made.1);

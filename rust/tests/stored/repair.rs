@@ -3,7 +3,7 @@
 
 use super::digest::{line, mixed, mixed_all, number};
 use super::trial::{nodes_of, Role, Trial};
-use hmsr::Shape;
+use hmsr::{Repair, Shape};
 
 /// Larger shapes: n, k, h, L, how many random repairs, and whether the archive is a codeword.
 const LARGE: [(usize, usize, usize, usize, usize, bool); 39] = [
@@ -71,8 +71,9 @@ impl Repairs {
     /// One repair, with its number among those of the line.
     fn repair(&mut self, index: usize, roles: &[Role]) {
         let (dead, helpers) = (nodes_of(roles, Role::Dead), nodes_of(roles, Role::Helping));
+        let repair = Repair { shape: self.trial.shape, dead: &dead, helpers: &helpers };
         let mut nodes = self.nodes_with(index, |node| roles[node] == Role::Helping);
-        let answer = number(self.trial.shape.repair(&dead, &helpers, &mut nodes, &mut self.wire));
+        let answer = number(repair.repair(&mut nodes, &mut self.wire));
         let whole = nodes == self.nodes_with(index, |node| roles[node] != Role::Unlisted);
         self.exact += u64::from(answer == 0 && whole);
         self.digest = mixed_all(mixed(self.digest, answer), &self.wire);

@@ -1,7 +1,7 @@
 //! The samples of document 01: each call's answer and what it left in its buffers, a line for each.
 
 use super::digest::{line, number};
-use hmsr::{unpack, Refusal, Shape};
+use hmsr::{unpack, Refusal, Repair, Shape};
 
 /// "n=3, k=1, L=1".
 const TINY: Shape = Shape { nodes: 3, data: 1, layers: 1 };
@@ -39,7 +39,7 @@ fn repaired() -> String {
     let mut nodes = first_archive();
     nodes[..8].fill(65535);
     let mut wire = [9; 8];
-    let answer = number(TINY.repair(&[0], &[1, 2], &mut nodes, &mut wire));
+    let answer = number(Repair { shape: TINY, dead: &[0], helpers: &[1, 2] }.repair(&mut nodes, &mut wire));
     shown(answer, &wire) + &line(&nodes.map(u64::from))
 }
 
@@ -64,7 +64,7 @@ fn no_transcript() -> String {
 
 /// The answer with nodes 0 and 1 dead, in buffers that fit n = 4 and L = 3.
 fn two_lost(shape: Shape, helpers: &[usize]) -> u64 {
-    number(shape.repair(&[0, 1], helpers, &mut [0; 192], &mut [0; 96])) as u64
+    number(Repair { shape, dead: &[0, 1], helpers }.repair(&mut [0; 192], &mut [0; 96])) as u64
 }
 
 pub fn lines() -> String {

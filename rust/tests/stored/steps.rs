@@ -3,7 +3,7 @@
 
 use super::digest::{line, mixed_all, number};
 use super::trial::{nodes_of, Role, Trial};
-use hmsr::Refusal;
+use hmsr::{Refusal, Repair};
 
 /// n, k, h, L, and whether the archive is a codeword.
 const CASES: [(usize, usize, usize, usize, bool); 24] = [
@@ -43,6 +43,10 @@ struct Repaired<'a> {
 }
 
 impl<'a> Repaired<'a> {
+    fn calls(&self) -> Repair<'a> {
+        Repair { shape: self.trial.shape, dead: self.dead, helpers: self.helpers }
+    }
+
     /// The symbols of a node.
     fn node(&self, node: usize) -> &'a [u16] {
         let size = self.trial.node_symbols();
@@ -72,8 +76,7 @@ impl<'a> Repaired<'a> {
         for (rank, &new) in self.dead.iter().enumerate() {
             for (index, &helper) in self.helpers.iter().enumerate() {
                 let own = self.node(helper);
-                let shape = self.trial.shape;
-                let answer = shape.helper_message(self.dead, self.helpers, helper, new, own, &mut message);
+                let answer = self.calls().helper_message(helper, new, own, &mut message);
                 same += given(answer, &message, self.messages(self.told_at(rank) + index, 1));
             }
         }
@@ -99,7 +102,7 @@ impl<'a> Repaired<'a> {
         let told = self.messages(self.told_at(rank), self.helpers.len());
         let mut sums = vec![7; (self.dead.len() - 1) * size];
         let new = self.dead[rank];
-        let answer = self.trial.shape.first_step(self.dead, self.helpers, new, told, pairs, &mut sums);
+        let answer = self.calls().first_step(new, told, pairs, &mut sums);
         let receivers = (0..self.dead.len()).filter(|&receiver| receiver != rank);
         let sent = receivers.map(|receiver| {
             // The receiver has no message from itself.
@@ -114,7 +117,7 @@ impl<'a> Repaired<'a> {
         let received = self.messages(self.received_at(rank), self.dead.len() - 1);
         let mut symbols = vec![7; self.trial.node_symbols()];
         let new = self.dead[rank];
-        let answer = self.trial.shape.second_step(self.dead, self.helpers, new, pairs, received, &mut symbols);
+        let answer = self.calls().second_step(new, pairs, received, &mut symbols);
         given(answer, &symbols, self.node(new))
     }
 }
@@ -129,7 +132,8 @@ fn repaired_line(trial: Trial, seed: u64, nodes: &mut [u16], wire: &mut [u16]) -
     let filled = trial.fill(seed, nodes);
     let roles = trial.random_roles(seed);
     let (dead, helpers) = (nodes_of(&roles, Role::Dead), nodes_of(&roles, Role::Helping));
-    let answer = number(trial.shape.repair(&dead, &helpers, nodes, wire)) as u64;
+    let repair = Repair { shape: trial.shape, dead: &dead, helpers: &helpers };
+    let answer = number(repair.repair(nodes, wire)) as u64;
     let whole = [filled, answer, mixed_all(0, wire), mixed_all(0, nodes)];
     let repaired = Repaired { trial, dead: &dead, helpers: &helpers, nodes, wire };
     line(&[&trial.heading()[..], &whole, &[repaired.messages_same()], &repaired.steps_same()].concat())

@@ -1,0 +1,105 @@
+//! The header's own part, its constants, sizes and texts: what C and C++ make of them is compared with numbers worked out
+//! here, with the Rust package, and with what the library says to buffers of these sizes.
+mod commands;
+
+use commands::{place, printed, there, top};
+use hmsr::{Refusal, Shape};
+use std::process::Command;
+use std::str::Lines;
+
+/// Numbers within, at the ends of and far beyond every range.
+fn numbers() -> impl Iterator<Item = usize> {
+    (0..=16).chain([31, 32, 63, 64, (1 << 32) + 6, 1 << 63, usize::MAX])
+}
+
+/// What `header.c` prints, compiled by that compiler without a warning. Where it shifted too far, it would be stopped.
+fn printed_by(compiler: &str, standard: &str, language: &str) -> String {
+    let program = place(&format!("header-{language}")).join("header");
+    let mut compile = Command::new(compiler);
+    compile.args([standard, "-Wall", "-Wextra", "-pedantic", "-Wconversion", "-Wshadow", "-Werror"]);
+    compile.args(["-fsanitize=undefined", "-fsanitize-undefined-trap-on-error", "-I"]).arg(top().join("include"));
+    compile.args(["-x", language]).arg(top().join("rust/tests/header/header.c"));
+    compile.args(["-x", "none", env!("HMSR_LIBRARY"), "-o"]).arg(&program);
+    printed(&mut compile);
+    printed(Command::new(program).args(numbers().map(|number| number.to_string())))
+}
+
+fn assert_header(output: &str) {
+    let mut lines = output.lines();
+    assert_constants(&mut lines);
+    for number in numbers() {
+        assert_eq!(lines.next(), Some(text(number).as_str()), "the text of {number}");
+    }
+    let mut shapes = 0;
+    for nodes in numbers() {
+        for data in numbers() {
+            for layers in numbers() {
+                shapes += assert_sizes(&mut lines, Shape { nodes, data, layers });
+            }
+        }
+    }
+    assert_eq!(lines.next(), None);
+    // k from 1 to n - 2, for n from 3 to 12, each with 15 layers.
+    assert_eq!(shapes, (1..=10).sum::<usize>() * 15);
+}
+
+fn assert_constants(lines: &mut Lines) {
+    let version = env!("CARGO_PKG_VERSION");
+    assert_eq!(lines.next(), Some(format!("{version} {version}").as_str()));
+    for (cause, number) in Refusal::ALL.into_iter().zip(1..) {
+        assert_eq!(lines.next(), Some(format!("{cause:?} {number}").as_str()));
+    }
+    assert_eq!(lines.next(), Some(format!("5 {}", hmsr::PLAN_TEXT).as_str()));
+}
+
+/// What the header says of a number.
+fn text(number: usize) -> String {
+    match Refusal::from_number(number) {
+        Some(cause) => cause.to_string(),
+        None if number == 0 => "no refusal".to_string(),
+        None => "not the number of a refusal".to_string(),
+    }
+}
+
+/// The lines of a shape. Gives 1 where it is within the ranges.
+fn assert_sizes(lines: &mut Lines, shape: Shape) -> usize {
+    let Shape { nodes, data, layers } = shape;
+    let within = (3..=12).contains(&nodes) && (1..=nodes - 2).contains(&data) && (1..=15).contains(&layers);
+    let size = if within { layers * 2usize.pow(nodes as u32) } else { 0 };
+    let room = if within { 15 + 2 * size } else { 0 };
+    assert_eq!((shape.node_symbols().unwrap_or(0), shape.card_room().unwrap_or(0)), (size, room));
+    let judged = if within { 5 } else { 1 };
+    assert_eq!(lines.next(), Some(format!("{size} {room} {judged} {judged}").as_str()), "{shape:?}");
+    for h in numbers() {
+        assert_repair(lines, shape, size, h);
+    }
+    usize::from(within)
+}
+
+/// The line of a loss of h nodes of a shape with nodes of that size, 0 where it is outside the ranges.
+fn assert_repair(lines: &mut Lines, shape: Shape, size: usize, h: usize) {
+    let number = match size {
+        0 => 1,
+        _ if h == 0 || h >= shape.nodes - shape.data => 2,
+        // 2^n has all the twos of h + 1, so N is a multiple of h + 1 where the layers are one of its odd part.
+        _ if !size.is_multiple_of(h + 1) => 3,
+        _ => 5,
+    };
+    let message = if number == 5 { size / (h + 1) } else { 0 };
+    let wire = if number == 5 { h * (shape.data + h) * message } else { 0 };
+    assert_eq!((shape.message_symbols(h).unwrap_or(0), shape.wire_symbols(h).unwrap_or(0)), (message, wire));
+    let judged = if h < 16 && shape.data < 16 { format!(" {number} {number}") } else { String::new() };
+    assert_eq!(lines.next(), Some(format!("{message} {wire}{judged}").as_str()), "{shape:?}, {h} dead");
+}
+
+#[test]
+fn in_c() {
+    assert_header(&printed_by("gcc", "-std=c99", "c"));
+}
+
+#[test]
+fn in_cpp() {
+    if there("g++") {
+        assert_header(&printed_by("g++", "-std=c++11", "c++"));
+    }
+}

@@ -1,0 +1,58 @@
+/* Prints the header's constants and texts, and every size for all shapes and losses of the numbers given, with what the library says to
+ * buffers of these sizes. It is compiled as C and as C++. */
+#include <stdio.h>
+#include <stdlib.h>
+#include <string.h>
+#include "hmsr.h"
+
+/* The first h nodes are dead, and the k + 1 behind them help. */
+static const size_t nodes[] = {0,  1,  2,  3,  4,  5,  6,  7,  8,  9,  10, 11, 12, 13, 14, 15,
+                               16, 17, 18, 19, 20, 21, 22, 23, 24, 25, 26, 27, 28, 29, 30, 31};
+
+/* Filled with symbols above 256, so that a call turns back with 5 where it has found every length exact. */
+static uint16_t symbols[12 * 61440], wire[1 << 20];
+static uint8_t card[1 << 17];
+
+static void print_constants(void) {
+    printf("%s %d.%d.%d\n", HMSR_VERSION, HMSR_VERSION_MAJOR, HMSR_VERSION_MINOR, HMSR_VERSION_PATCH);
+    printf("BadShape %d\nBadNodes %d\nPartBatch %d\n", HMSR_BAD_SHAPE, HMSR_BAD_NODES, HMSR_PART_BATCH);
+    printf("WrongLength %d\nBadSymbol %d\nMalformed %d\n", HMSR_WRONG_LENGTH, HMSR_BAD_SYMBOL, HMSR_MALFORMED);
+    printf("NoTranscript %d\nZeroDivisor %d\n", HMSR_NO_TRANSCRIPT, HMSR_ZERO_DIVISOR);
+    printf("%d %d\n", HMSR_HEADER, HMSR_PLAN_TEXT);
+}
+
+static void print_shape(size_t n, size_t k, size_t layers) {
+    size_t size = hmsr_node_symbols(n, k, layers), room = hmsr_card_room(n, k, layers);
+    size_t packed = hmsr_pack(n, k, layers, 0, 0, symbols, size, card, room);
+    size_t checked = hmsr_check(n, k, layers, symbols, n * size);
+    printf("%zu %zu %zu %zu\n", size, room, packed, checked);
+}
+
+static void print_repair(size_t n, size_t k, size_t layers, size_t h) {
+    size_t size = hmsr_node_symbols(n, k, layers);
+    size_t message = hmsr_message_symbols(n, k, layers, h), sent = hmsr_wire_symbols(n, k, layers, h);
+    printf("%zu %zu", message, sent);
+    if (h < 16 && k < 16) { /* there are no more node numbers above */
+        printf(" %zu", hmsr_helper_message(n, k, layers, nodes, h, nodes + h, k + 1, h, 0, symbols, size, wire, message));
+        printf(" %zu", hmsr_repair(n, k, layers, nodes, h, nodes + h, k + 1, symbols, n * size, wire, sent));
+    }
+    printf("\n");
+}
+
+int main(int count, char **words) {
+    static size_t numbers[64];
+    int n, k, layers, h, i;
+    memset(symbols, 255, sizeof symbols);
+    print_constants();
+    for (i = 1; i < count && i < 64; i++) {
+        numbers[i] = (size_t)strtoull(words[i], NULL, 10);
+        printf("%s\n", hmsr_refusal_text(numbers[i]));
+    }
+    for (n = 1; n < i; n++)
+        for (k = 1; k < i; k++)
+            for (layers = 1; layers < i; layers++) {
+                print_shape(numbers[n], numbers[k], numbers[layers]);
+                for (h = 1; h < i; h++) print_repair(numbers[n], numbers[k], numbers[layers], numbers[h]);
+            }
+    return 0;
+}
