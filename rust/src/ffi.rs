@@ -205,14 +205,7 @@ pub(crate) fn pack(s: Shape, node: usize, length: usize, symbols: &[u16], card: 
 pub(crate) fn unpack(card: &[u8], symbols: &mut [u16], header: &mut [usize]) -> usize {
     // SAFETY: see the top of this file.
     unsafe {
-        hmsr_unpack(
-            card.as_ptr(),
-            card.len(),
-            symbols.as_mut_ptr(),
-            symbols.len(),
-            header.as_mut_ptr(),
-            header.len(),
-        )
+        hmsr_unpack(card.as_ptr(), card.len(), symbols.as_mut_ptr(), symbols.len(), header.as_mut_ptr(), header.len())
     }
 }
 
