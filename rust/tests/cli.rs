@@ -5,6 +5,8 @@ use std::os::unix::fs::{symlink, PermissionsExt};
 
 #[path = "cli/faults.rs"]
 mod faults;
+#[path = "cli/kills.rs"]
+mod kills;
 #[path = "cli/names.rs"]
 mod names;
 #[path = "cli/place.rs"]

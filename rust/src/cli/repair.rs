@@ -32,6 +32,9 @@ pub fn run(args: &Args) -> Result<Report, Failure> {
 /// Repairs the dead nodes that are wanted.
 pub fn repair(directory: &Path, wanted: Wanted) -> Result<String, Failure> {
     let cards = Cards::load(directory)?;
+    if !wanted.dry_run {
+        temporary::clean(directory);
+    }
     need_helpers(&cards)?;
     Agreement::of(&cards)?.refuse_wrong(&cards)?;
     let dead = chosen_dead(&cards, wanted.dead)?;
@@ -135,7 +138,6 @@ fn plan_described(shape: Shape, dead: &[usize], helpers: &[usize]) -> Result<Str
 
 /// Puts the new cards in place once all of them are on the disk.
 fn put_cards(cards: &Cards, dead: &[usize], nodes: &[u16]) -> Result<(), Failure> {
-    temporary::clean(&cards.directory);
     let mut pending = Vec::new();
     for &node in dead {
         pending.push((node, pending_card(cards, node, nodes)?));

@@ -72,7 +72,8 @@ fn put_cards(directory: &Path, cards: &[Vec<u8>]) -> Result<String, Failure> {
     put_missing(directory, cards, &there)?;
     Ok(match there.len() {
         0 => String::new(),
-        count => format!("{} of the same were there already\n", counted(count, "card")),
+        1 => "1 of these cards was there already\n".to_string(),
+        count => format!("{count} of these cards were there already\n"),
     })
 }
 

@@ -20,23 +20,6 @@ static int is(const char *variable, const char *value) {
     return set && strcmp(set, value) == 0;
 }
 
-/* Counts a call. At the call with the number FAULT_AT: ends the program, or says that the call is to fail. */
-static int fault(void) {
-    static long calls;
-    const char *at = getenv("FAULT_AT");
-    if (!at || ++calls != atol(at)) return 0;
-    if (is("FAULT_HOW", "kill")) raise(SIGKILL);
-    errno = EIO;
-    return 1;
-}
-
-static void path_of(int file, char *path, size_t room) {
-    char link[64];
-    snprintf(link, sizeof link, "/proc/self/fd/%d", file);
-    ssize_t length = readlink(link, path, room - 1);
-    path[length < 0 ? 0 : length] = 0;
-}
-
 /* Appends a line to the file FAULT_LOG. */
 static void log_call(const char *call, const char *path) {
     const char *log = getenv("FAULT_LOG");
@@ -44,6 +27,27 @@ static void log_call(const char *call, const char *path) {
     if (!file) return;
     fprintf(file, "%s %s\n", call, path);
     fclose(file);
+}
+
+/* Counts a call. At the call with the number FAULT_AT: ends the program, or says that the call is to fail. */
+static int fault_at_call(void) {
+    static long calls;
+    const char *at = getenv("FAULT_AT");
+    if (!at || ++calls != atol(at)) return 0;
+    log_call("fault", "");
+    if (is("FAULT_HOW", "kill")) raise(SIGKILL);
+    errno = EIO;
+    return 1;
+}
+
+/* Of the calls but writes; FAULT_HOW part stops in the midst of a write alone. */
+static int fault(void) { return is("FAULT_HOW", "part") ? 0 : fault_at_call(); }
+
+static void path_of(int file, char *path, size_t room) {
+    char link[64];
+    snprintf(link, sizeof link, "/proc/self/fd/%d", file);
+    ssize_t length = readlink(link, path, room - 1);
+    path[length < 0 ? 0 : length] = 0;
 }
 
 int open64(const char *path, int flags, ...) {
@@ -75,13 +79,10 @@ ssize_t read(int file, void *bytes, size_t count) {
 
 /* A program that is killed while it writes has written a part. */
 ssize_t write(int file, const void *bytes, size_t count) {
-    static long writes;
-    const char *at = getenv("FAULT_WRITE");
-    if (at && ++writes == atol(at)) {
-        REAL(write)(file, bytes, count / 2);
-        raise(SIGKILL);
-    }
-    return fault() ? -1 : REAL(write)(file, bytes, count);
+    if (!is("FAULT_HOW", "part")) return fault() ? -1 : REAL(write)(file, bytes, count);
+    if (!fault_at_call()) return REAL(write)(file, bytes, count);
+    REAL(write)(file, bytes, count / 2);
+    return raise(SIGKILL);
 }
 
 int fsync(int file) {

@@ -91,6 +91,18 @@ impl Place {
         found
     }
 
+    /// Makes these the contents.
+    pub fn fill(&self, contents: &BTreeMap<PathBuf, Option<Vec<u8>>>) {
+        fs::remove_dir_all(&self.0).unwrap();
+        fs::create_dir(&self.0).unwrap();
+        for (path, file) in contents {
+            match file {
+                Some(bytes) => fs::write(path, bytes).unwrap(),
+                None => fs::create_dir(path).unwrap(),
+            }
+        }
+    }
+
     pub fn card(&self, directory: &str, node: usize) -> PathBuf {
         self.path(directory).join(format!("node-{node:02}.card"))
     }
