@@ -3,16 +3,26 @@
 use std::fs;
 use std::os::unix::fs::{symlink, PermissionsExt};
 
+#[path = "cli/arguments.rs"]
+mod arguments;
 #[path = "cli/faults.rs"]
 mod faults;
+#[path = "cli/files.rs"]
+mod files;
+#[path = "cli/json.rs"]
+mod json;
 #[path = "cli/kills.rs"]
 mod kills;
 #[path = "cli/names.rs"]
 mod names;
+#[path = "cli/options.rs"]
+mod options;
 #[path = "cli/place.rs"]
 mod place;
 #[path = "cli/reading.rs"]
 mod reading;
+#[path = "cli/traffic.rs"]
+mod traffic;
 #[path = "cli/wrong.rs"]
 mod wrong;
 

@@ -5,7 +5,7 @@ const USAGES: [(&str, &str); 7] = [
     (
         "write",
         "\
-  hmsr write FILE DIR --nodes N --data K [--layers L] [--quiet]
+hmsr write FILE DIR --nodes N --data K [--layers L] [--quiet]
         write FILE into N cards, DIR/node-00.card and so on, any K of which give it back (N is 3 to 12, K is 1 to
         N - 2; without --layers the best number from 1 to 15 is chosen); FILE - is standard input; a write that was
         killed is finished by the same write again
@@ -14,14 +14,14 @@ const USAGES: [(&str, &str); 7] = [
     (
         "check",
         "\
-  hmsr check DIR [--json] [--quiet]
+hmsr check DIR [--json] [--quiet]
         whether every card is there and all agree
 ",
     ),
     (
         "open",
         "\
-  hmsr open DIR OUT [--quiet]
+hmsr open DIR OUT [--quiet]
         put the transcript into the new file OUT, from any K cards; OUT - is standard output, and then the report goes
         to standard error
 ",
@@ -29,7 +29,7 @@ const USAGES: [(&str, &str); 7] = [
     (
         "repair",
         "\
-  hmsr repair DIR [--dead LIST] [--helpers LIST] [--dry-run] [--quiet]
+hmsr repair DIR [--dead LIST] [--helpers LIST] [--dry-run] [--quiet]
         make missing and unreadable cards anew, all of them or those in LIST, with the help of K + 1 others; LIST is
         node numbers with commas, as 0,3,7; with --dry-run, say so and change nothing
 ",
@@ -37,21 +37,21 @@ const USAGES: [(&str, &str); 7] = [
     (
         "plan",
         "\
-  hmsr plan --nodes N --data K --layers L --dead LIST --helpers LIST [--json]
+hmsr plan --nodes N --data K --layers L --dead LIST --helpers LIST [--json]
         who sends how many symbols to whom in a repair
 ",
     ),
     (
         "info",
         "\
-  hmsr info CARD [--json]
+hmsr info CARD [--json]
         what a card says of itself
 ",
     ),
     (
         "demo",
         "\
-  hmsr demo
+hmsr demo
         write, lose, repair and open an archive in a temporary directory
 ",
     ),
@@ -63,9 +63,9 @@ A transcript spread over drives, any k of which give it back, and lost ones refi
 ";
 
 const BACK: &str = "\
-  hmsr --help, hmsr COMMAND --help
+hmsr --help, hmsr COMMAND --help
         this text, or that of one command
-  hmsr --version
+hmsr --version
         the version of the program
 
 --quiet prints no report, --json prints it for programs to read, -- ends the options.

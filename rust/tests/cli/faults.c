@@ -1,5 +1,5 @@
 /* A library to be loaded before the C library: counts the calls that change files, and kills the program or fails the call at one of
-   them; fails or cuts short the first reading of a file; and writes down which files are synced and renamed. */
+   them; fails or cuts short the reading of a file; and writes down which files are synced and renamed. */
 #define _GNU_SOURCE
 #include <dlfcn.h>
 #include <errno.h>
@@ -59,7 +59,7 @@ int open64(const char *path, int flags, ...) {
     return REAL(open64)(path, flags, mode);
 }
 
-/* The first reading of the file whose name is FAULT_READ: an error, or the end of the file. */
+/* The first reading of the file whose name is FAULT_READ, or FAULT_HOW always each: an error, or the end of the file. */
 ssize_t read(int file, void *bytes, size_t count) {
     static int done;
     const char *name = getenv("FAULT_READ");
@@ -68,7 +68,7 @@ ssize_t read(int file, void *bytes, size_t count) {
         path_of(file, path, sizeof path);
         size_t length = strlen(path), tail = strlen(name);
         if (tail <= length && strcmp(path + length - tail, name) == 0) {
-            done = 1;
+            done = !is("FAULT_HOW", "always");
             if (is("FAULT_HOW", "end")) return 0;
             errno = EIO;
             return -1;
