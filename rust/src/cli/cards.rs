@@ -136,11 +136,12 @@ impl Cards {
         }
         let doubts: String = (0..self.shape.nodes).filter_map(|node| self.doubt(node)).map(|d| d + "; ").collect();
         let cards = match &present[..] {
-            [] => "no readable card is".to_string(),
-            [node] => format!("1 readable card (node {node}) is"),
-            _ => format!("{} readable cards ({}) are", present.len(), nodes_listed(&present)),
+            [] => "no card can be used".to_string(),
+            [node] => format!("1 readable card (node {node}) is too few"),
+            _ => format!("{} readable cards ({}) are too few", present.len(), nodes_listed(&present)),
         };
-        Err(kind(format!("{cards} too few: {count} are needed; {doubts}{advice}")))
+        let needed = if count == 1 { "1 is needed".to_string() } else { format!("{count} are needed") };
+        Err(kind(format!("{cards}: {needed}; {doubts}{advice}")))
     }
 
     /// The transcript from k nodes.

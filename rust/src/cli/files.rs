@@ -5,6 +5,7 @@ use std::os::unix::fs::OpenOptionsExt;
 use std::path::{Path, PathBuf};
 
 use super::temporary::Temporary;
+use super::Failure;
 
 /// The flag with which opening a FIFO does not wait for its other end.
 #[cfg(any(target_os = "linux", target_os = "android"))]
@@ -81,12 +82,14 @@ impl Pending {
 
 /// Sends a directory's names to the disk. A directory that may not be read, and some file systems, cannot be told to;
 /// the files are there all the same.
-pub fn sync_directory(directory: &Path) -> io::Result<()> {
+pub fn sync_directory(directory: &Path) -> Result<(), Failure> {
     let Ok(opened) = File::open(directory) else {
         return Ok(());
     };
     match opened.sync_all() {
-        Err(e) if !matches!(e.kind(), io::ErrorKind::InvalidInput | io::ErrorKind::Unsupported) => Err(e),
+        Err(e) if !matches!(e.kind(), io::ErrorKind::InvalidInput | io::ErrorKind::Unsupported) => {
+            Err(Failure::of_path("send to the disk what is in", directory, &e))
+        }
         _ => Ok(()),
     }
 }

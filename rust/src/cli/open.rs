@@ -35,7 +35,7 @@ pub fn open(directory: &Path, out: &Path) -> Result<String, Failure> {
     let failed = |e| Failure::of_path("write", out, &e);
     temporary::clean(files::parent(out));
     Pending::write(out, &transcript, None).map_err(failed)?.place_new().map_err(failed)?;
-    files::sync_directory(files::parent(out)).map_err(failed)?;
+    files::sync_directory(files::parent(out))?;
     Ok(report)
 }
 

@@ -150,7 +150,7 @@ fn put_cards(cards: &Cards, dead: &[usize], nodes: &[u16]) -> Result<(), Failure
             false => card.place_new().map_err(failed)?,
         }
     }
-    files::sync_directory(&cards.directory).map_err(failed)
+    files::sync_directory(&cards.directory)
 }
 
 /// A node's new card under a temporary name, with the permissions of the file that it replaces.

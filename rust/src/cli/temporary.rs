@@ -27,7 +27,10 @@ impl Temporary {
     }
 
     pub fn directory(beside: &Path) -> io::Result<Temporary> {
-        Temporary::make(beside, |path| fs::create_dir(path).and_then(|()| File::open(path)))
+        Temporary::make(beside, |path| {
+            fs::create_dir(path)?;
+            File::open(path).inspect_err(|_| remove(path))
+        })
     }
 
     fn make(beside: &Path, create: impl Fn(&Path) -> io::Result<File>) -> io::Result<Temporary> {

@@ -88,20 +88,17 @@ fn put_directory(directory: &Path, cards: &[Vec<u8>]) -> Result<(), Failure> {
     let mut written = cards.iter().enumerate();
     written
         .try_for_each(|(node, card)| files::write_new(&made.path.join(card_name(node)), card))
-        .and_then(|()| files::sync_directory(&made.path))
         .map_err(|e| Failure::of_path("write cards into", directory, &e))?;
+    files::sync_directory(&made.path)?;
     made.rename(directory).map_err(unmade)?;
-    files::sync_directory(parent).map_err(unmade)
+    files::sync_directory(parent)
 }
 
 /// The nodes whose cards are there already, all of them the very cards that are to be written: a killed write of the same
 /// transcript has left them. Any other card is refused.
 fn refuse_others(directory: &Path, cards: &[Vec<u8>]) -> Result<Vec<usize>, Failure> {
     let there = numbers_of_cards(directory)?;
-    let same = |node: usize| {
-        let read = |card: &Vec<u8>| files::read(&card_path(directory, node), card.len()).ok().flatten();
-        cards.get(node).is_some_and(|card| read(card).as_ref() == Some(card))
-    };
+    let same = |node: usize| cards.get(node).is_some_and(|card| holds(&card_path(directory, node), card));
     match there.iter().find(|&&node| !same(node)) {
         Some(&node) => {
             let card = shown(&card_path(directory, node));
@@ -111,23 +108,32 @@ fn refuse_others(directory: &Path, cards: &[Vec<u8>]) -> Result<Vec<usize>, Fail
     }
 }
 
-/// Puts the cards that are not there into the directory; the last of them completes it.
+/// Whether a file has exactly these bytes.
+fn holds(path: &Path, card: &[u8]) -> bool {
+    files::read(path, card.len()).is_ok_and(|bytes| bytes.as_deref() == Some(card))
+}
+
+/// Puts the cards that are not there into the directory; the last of them completes it. Where the same write runs twice at
+/// once, each takes the cards that the other has put there.
 fn put_missing(directory: &Path, cards: &[Vec<u8>], there: &[usize]) -> Result<(), Failure> {
     let failed = |e| Failure::of_path("write cards into", directory, &e);
     let mut pending = Vec::new();
     for (node, card) in cards.iter().enumerate().filter(|(node, _)| !there.contains(node)) {
         let path = card_path(directory, node);
-        pending.push((Pending::write(&path, card, None).map_err(failed)?, path));
+        pending.push((Pending::write(&path, card, None).map_err(failed)?, path, card));
     }
     let mut placed = Vec::new();
-    for (card, path) in pending {
-        if let Err(e) = card.place_new() {
-            remove(&placed);
-            return Err(failed(e));
+    for (new, path, card) in pending {
+        match new.place_new() {
+            Ok(()) => placed.push(path),
+            Err(_) if holds(&path, card) => {}
+            Err(e) => {
+                remove(&placed);
+                return Err(failed(e));
+            }
         }
-        placed.push(path);
     }
-    files::sync_directory(directory).map_err(failed)
+    files::sync_directory(directory)
 }
 
 /// Takes cards away that this command placed.

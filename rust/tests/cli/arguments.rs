@@ -70,7 +70,7 @@ fn what_stands_behind_two_dashes_is_a_word() {
     place.does("write --nodes 3 --data 1 -- --help --drives");
     place.does("open -- --drives -out");
     assert_eq!(fs::read(place.path("-out")).unwrap(), bytes(10, 1));
-    // A second one is a word itself, and so is a single dash behind the first: a file of that name is not meant.
+    // A second one is a word itself.
     place.refuses("check -- --", 4, &["cannot read the directory --"]);
     place.refuses("check -- --drives --quiet", USAGE, &["what is --quiet for?"]);
 }

@@ -4,7 +4,7 @@ use std::collections::BTreeMap;
 use std::fs::{self, File};
 use std::os::unix::process::ExitStatusExt;
 use std::path::{Path, PathBuf};
-use std::process::Output;
+use std::process::{Output, Stdio};
 
 use crate::place::{bytes, Place, IO};
 
@@ -206,6 +206,35 @@ fn a_write_into_a_directory_with_some_of_its_cards_finishes() {
     place.damage("drives", 2);
     place.lose("drives", &[1]);
     place.refuses("write transcript drives --nodes 4 --data 1", IO, &["node-02.card is there already"]);
+}
+
+/// Commands that run at once: each turns back or does its work, and together they leave what one of them leaves.
+#[test]
+fn commands_that_run_at_once_lose_nothing() {
+    let at_once = |place: &Place, line: &str| {
+        let words: Vec<&str> = line.split(' ').collect();
+        let quiet = |_| place.command(&words).stdout(Stdio::null()).stderr(Stdio::piped()).spawn().unwrap();
+        let running: Vec<_> = (0..6).map(quiet).collect();
+        let outputs = running.into_iter().map(|child| child.wait_with_output().unwrap());
+        outputs.map(|output| output.status.code()).collect::<Vec<_>>()
+    };
+    for round in 0..5 {
+        let place = Place::new("at_once");
+        transcript_and_directory(&place);
+        let write = "write transcript drives --nodes 12 --data 6";
+        assert_eq!(at_once(&place, write), [Some(0); 6], "{round}");
+        let written = place.contents();
+        assert_eq!(written.len(), 1 + 1 + 1 + 12);
+        let codes = at_once(&place, "write transcript new --nodes 12 --data 6");
+        assert!(codes.contains(&Some(0)) && codes.iter().all(|code| matches!(code, Some(0 | IO))), "{codes:?}");
+        fs::remove_dir_all(place.path("new")).unwrap();
+        assert!(place.contents() == written);
+        place.lose("drives", &[0, 5]);
+        place.truncate("drives", 7);
+        let codes = at_once(&place, "repair drives");
+        assert!(codes.contains(&Some(0)) && codes.iter().all(|code| matches!(code, Some(0 | IO))), "{codes:?}");
+        assert!(place.contents() == written);
+    }
 }
 
 #[test]
