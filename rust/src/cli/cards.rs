@@ -15,8 +15,7 @@ pub struct Cards {
     pub length: usize,
     /// The readable cards.
     cards: Vec<Card>,
-    /// For each node, the place among the cards of the one that is used: the first that names the node in its header,
-    /// where no other that does so differs.
+    /// For each node, the place among the cards of the one that is used.
     used: Vec<Option<usize>>,
     /// The numbers in the names of files that are no readable cards, and why.
     unreadable: Vec<(usize, Unreadable)>,
@@ -158,10 +157,14 @@ impl Cards {
     }
 }
 
-/// The place of the first card of a node, where no other card of it differs.
+/// The place of a node's card, where no other card of it differs: that under its own name, or else the first.
 fn used(cards: &[Card], node: usize) -> Option<usize> {
-    let of_node = |card: &&Card| card.header.node == node;
-    groups::same(cards.iter().filter(of_node)).then(|| cards.iter().position(|card| of_node(&card)))?
+    if !groups::same(cards.iter().filter(|card| card.header.node == node)) {
+        return None;
+    }
+    let of_node = |card: &Card| card.header.node == node;
+    let own = cards.iter().position(|card| of_node(card) && card.named == node);
+    own.or_else(|| cards.iter().position(of_node))
 }
 
 /// Cards of another archive stop every command: their nodes may be missing, and then they have those nodes' names.

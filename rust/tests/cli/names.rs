@@ -64,7 +64,7 @@ fn a_copy_under_another_name_is_one_card() {
     let place = Place::with_archive("copied");
     let written = place.contents();
     fs::copy(place.card("drives", 4), place.card("drives", 3)).unwrap();
-    assert!(place.opens("drives", &bytes(500, 1)).contains("node-03.card is the card of node 4"));
+    assert!(place.opens("drives", &bytes(500, 1)).contains("note: node-03.card is a copy of node-04.card\n"));
     for line in ["check drives", "repair drives"] {
         place.refuses(line, REPAIRABLE, &["node-03.card is a copy of node-04.card: move it away"]);
     }
