@@ -4,7 +4,7 @@ use std::path::{Path, PathBuf};
 use hmsr::Shape;
 
 use super::card_files::{card_name, card_path, numbers_of_cards, read_card, Card, Unreadable};
-use super::groups::{self, described, kind, Kind};
+use super::groups::{self, described, kind};
 use super::text::{joined, nodes_listed, shown};
 use super::Failure;
 
@@ -13,8 +13,10 @@ pub struct Cards {
     pub directory: PathBuf,
     pub shape: Shape,
     pub length: usize,
-    /// The readable cards.
+    /// The readable cards of this archive.
     cards: Vec<Card>,
+    /// The readable cards of others.
+    foreign: Vec<Card>,
     /// For each node, the place among the cards of the one that is used.
     used: Vec<Option<usize>>,
     /// The numbers in the names of files that are no readable cards, and why.
@@ -32,13 +34,28 @@ impl Cards {
                 Err(why) => unreadable.push((named, why)),
             }
         }
-        let Some(kind) = groups::decided(directory, &cards)? else {
+        let Some(wanted) = groups::decided(directory, &cards)? else {
             return Err(none_readable(directory, &unreadable));
         };
-        refuse_foreign(directory, &cards, kind)?;
-        let (shape, length) = kind;
+        let (cards, foreign): (Vec<Card>, Vec<Card>) = cards.into_iter().partition(|card| kind(card) == wanted);
+        let (shape, length) = wanted;
         let used = (0..shape.nodes).map(|node| used(&cards, node)).collect();
-        Ok(Cards { directory: directory.to_path_buf(), shape, length, cards, used, unreadable })
+        Ok(Cards { directory: directory.to_path_buf(), shape, length, cards, foreign, used, unreadable })
+    }
+
+    /// Cards of another archive stop every command: their nodes may be missing, and then they have those nodes' names.
+    pub fn refuse_foreign(&self) -> Result<(), Failure> {
+        let Some(first) = self.foreign.first().map(kind) else {
+            return Ok(());
+        };
+        let files = self.foreign.iter().map(|card| shown(&card_path(&self.directory, card.named)));
+        let is = if self.foreign.len() == 1 { "is" } else { "are" };
+        Err(Failure::Repairable(format!(
+            "{} {is} of another archive ({}) than most here ({}): keep the cards of one archive in a directory",
+            joined(files),
+            described(first),
+            self.described()
+        )))
     }
 
     /// The nodes whose cards can be used, rising.
@@ -165,22 +182,6 @@ fn used(cards: &[Card], node: usize) -> Option<usize> {
     let of_node = |card: &Card| card.header.node == node;
     let own = cards.iter().position(|card| of_node(card) && card.named == node);
     own.or_else(|| cards.iter().position(of_node))
-}
-
-/// Cards of another archive stop every command: their nodes may be missing, and then they have those nodes' names.
-fn refuse_foreign(directory: &Path, cards: &[Card], wanted: Kind) -> Result<(), Failure> {
-    let Some(foreign) = cards.iter().map(kind).find(|kind| *kind != wanted) else {
-        return Ok(());
-    };
-    let strangers = cards.iter().filter(|card| kind(card) == foreign);
-    let files: Vec<String> = strangers.map(|card| shown(&card_path(directory, card.named))).collect();
-    Err(Failure::Repairable(format!(
-        "{} {} of another archive ({}) than most here ({}): keep the cards of one archive in a directory",
-        files.join(", "),
-        if files.len() == 1 { "is" } else { "are" },
-        described(foreign),
-        described(wanted)
-    )))
 }
 
 fn none_readable(directory: &Path, unreadable: &[(usize, Unreadable)]) -> Failure {

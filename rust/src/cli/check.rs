@@ -20,26 +20,38 @@ pub fn run(args: &Args) -> Result<Report, Failure> {
 
 /// What is to be said of the cards.
 fn judged(cards: &Cards) -> Result<String, Failure> {
-    let shape = cards.shape;
     if cards.absent().is_empty() {
-        return all_there(cards);
+        met(cards)?;
     }
-    cards.need(shape.data, Failure::Lost, "find more of them: the transcript cannot be opened")?;
+    cards.need(cards.shape.data, Failure::Lost, "find more of them: the transcript cannot be opened")?;
     let agreement = Agreement::of(cards)?;
-    cards.transcript(&agreement.right[..shape.data])?;
+    cards.transcript(&agreement.right[..cards.shape.data])?;
+    cards.refuse_foreign()?;
+    if !cards.absent().is_empty() {
+        return Err(to_be_done(cards, &agreement));
+    }
+    let notes = cards.notes();
+    Ok(format!("sound: all cards are there and meet the parity equations ({})\n{notes}", cards.described()))
+}
+
+/// The absent nodes, and what is to be done about them.
+fn to_be_done(cards: &Cards, agreement: &Agreement) -> Failure {
     let absent = cards.absent_described();
-    agreement.refuse_wrong(cards).map_err(|wrong| Failure::Repairable(format!("{absent}; {}", wrong.message())))?;
-    let others = match agreement.right.len() {
-        1 => "the other one is".to_string(),
-        count => format!("the other {count} are"),
-    };
-    Err(Failure::Repairable(match agreement.right.len() > shape.data {
-        true => format!("{absent}; the other {} agree: {}run hmsr repair", agreement.right.len(), to_be_moved(cards)),
-        false => format!(
-            "{absent}; {others} just enough to open the transcript, and none is left to compare or repair with: \
-             open it, and write it anew"
-        ),
-    }))
+    if let Err(wrong) = agreement.refuse_wrong(cards) {
+        return Failure::Repairable(format!("{absent}; {}", wrong.message()));
+    }
+    let count = agreement.right.len();
+    if count > cards.shape.data {
+        return Failure::Repairable(format!(
+            "{absent}; the other {count} agree: {}run hmsr repair",
+            to_be_moved(cards)
+        ));
+    }
+    let others = if count == 1 { "the other one is".to_string() } else { format!("the other {count} are") };
+    Failure::Repairable(format!(
+        "{absent}; {others} just enough to open the transcript, and none is left to compare or repair with: open it, \
+         and write it anew"
+    ))
 }
 
 /// What is to be done before a repair can put new cards in their places.
@@ -51,20 +63,16 @@ fn to_be_moved(cards: &Cards) -> String {
     obstacles.concat()
 }
 
-/// The check of all nodes, and that they open.
-fn all_there(cards: &Cards) -> Result<String, Failure> {
-    let all = cards.symbols_of(&cards.present());
-    match cards.shape.check(&all) {
-        Ok(Checked::Sound) => {}
-        Ok(Checked::Unmet { layer, a, t }) => return Err(unmet(cards, layer, a, t)),
+/// The check of all nodes.
+fn met(cards: &Cards) -> Result<(), Failure> {
+    match cards.shape.check(&cards.symbols_of(&cards.present())) {
+        Ok(Checked::Sound) => Ok(()),
+        Ok(Checked::Unmet { layer, a, t }) => Err(unmet(cards, layer, a, t)),
         Err(refusal) => {
             let what = "the cards cannot be checked";
-            return Err(Failure::refused(Failure::Lost, what, refusal, "this is a fault of the program"));
+            Err(Failure::refused(Failure::Lost, what, refusal, "this is a fault of the program"))
         }
     }
-    cards.transcript(&cards.present()[..cards.shape.data])?;
-    let notes = cards.notes();
-    Ok(format!("sound: all cards are there and meet the parity equations ({})\n{notes}", cards.described()))
 }
 
 /// The first unmet equation, and which cards are to blame where that can be told.

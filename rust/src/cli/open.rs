@@ -52,6 +52,7 @@ fn opened(directory: &Path, out: &str) -> Result<(Vec<u8>, String), Failure> {
     let agreement = Agreement::of(&cards)?;
     let used = &agreement.right[..cards.shape.data];
     let transcript = cards.transcript(used)?;
+    cards.refuse_foreign()?;
     let report = report(&cards, &agreement, used, out);
     Ok((transcript, report))
 }

@@ -35,8 +35,7 @@ pub fn repair(directory: &Path, wanted: Wanted) -> Result<String, Failure> {
     if !wanted.dry_run {
         temporary::clean(directory);
     }
-    need_helpers(&cards)?;
-    Agreement::of(&cards)?.refuse_wrong(&cards)?;
+    agree(&cards)?;
     let dead = chosen_dead(&cards, wanted.dead)?;
     let helpers = chosen_helpers(&cards, wanted.helpers)?;
     if dead.is_empty() {
@@ -53,11 +52,16 @@ pub fn repair(directory: &Path, wanted: Wanted) -> Result<String, Failure> {
     Ok(format!("{report}{made} {names}\n{}", cards.notes()))
 }
 
-/// Refuses with what can be done with fewer cards than a repair needs.
-fn need_helpers(cards: &Cards) -> Result<(), Failure> {
-    cards.need(cards.shape.data, Failure::Lost, "find more of them")?;
+/// Refuses cards that are too few or do not all agree, with what can be done.
+fn agree(cards: &Cards) -> Result<(), Failure> {
+    let data = cards.shape.data;
+    cards.need(data, Failure::Lost, "find more of them")?;
+    let agreement = Agreement::of(cards)?;
+    cards.transcript(&agreement.right[..data])?;
+    cards.refuse_foreign()?;
     let advice = "they still open: open the transcript, and write it anew into another directory";
-    cards.need(cards.shape.data + 1, Failure::Repairable, advice)
+    cards.need(data + 1, Failure::Repairable, advice)?;
+    agreement.refuse_wrong(cards)
 }
 
 /// Only absent nodes are repaired, so that no readable card is written over.

@@ -144,3 +144,32 @@ fn where_no_archive_has_enough_cards_none_is_used() {
     fs::rename(place.path("away-3"), place.card("drives", 3)).unwrap();
     place.refuses("check drives", REPAIRABLE, &["drives/node-04.card, drives/node-05.card are of another archive"]);
 }
+
+/// What is said first is what is worst: the cards that are meant do not agree.
+#[test]
+fn a_card_of_another_archive_does_not_hide_a_loss() {
+    let place = Place::with_archive("foreign_and_wrong");
+    fs::write(place.path("other"), bytes(499, 1)).unwrap();
+    place.does("write other others --nodes 6 --data 3");
+    fs::copy(place.card("others", 0), place.card("drives", 0)).unwrap();
+    place.lose("drives", &[1]);
+    place.damage("drives", 2);
+    for line in ["check drives", "open drives opened", "repair drives"] {
+        place.refuses(line, LOST, &["nodes 2, 3, 4, 5 do not agree", "cannot be told"]);
+    }
+}
+
+/// With exactly k cards nothing is compared, but they are not said to open if they do not.
+#[test]
+fn cards_that_do_not_open_are_not_said_to() {
+    let place = Place::new("not_open");
+    fs::write(place.path("transcript"), [7; 20]).unwrap();
+    place.does("write transcript drives --nodes 4 --data 1");
+    place.lose("drives", &[0, 1, 2]);
+    let mut card = fs::read(place.card("drives", 3)).unwrap();
+    card[4] = 19;
+    fs::write(place.card("drives", 3), card).unwrap();
+    for line in ["check drives", "open drives opened", "repair drives"] {
+        place.refuses(line, LOST, &["the cards do not open: refusal 7"]);
+    }
+}
