@@ -30,7 +30,8 @@ impl Agreement {
             }
         }
         Err(Failure::Lost(format!(
-            "the cards of {} do not agree, and it cannot be told which are wrong: find more cards of this archive",
+            "the cards of {} do not agree, and it cannot be told which are wrong: find more cards of this archive, or \
+             other copies of these",
             nodes_listed(&present)
         )))
     }

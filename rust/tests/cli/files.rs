@@ -74,7 +74,6 @@ fn control_characters_in_names_are_escaped() {
     fs::write(place.path("transcript"), bytes(100, 1)).unwrap();
     let directory = "two\nlines\u{1b}[31m\u{85}\u{202e}";
     let shown = "two\\nlines\\u{1b}[31m\\u{85}\\u{202e}";
-    let run = |words: &[&str]| place.command(words).output().unwrap();
     let mut printed = Vec::new();
     for words in [
         &["write", "transcript", directory, "--nodes", "4", "--data", "1"][..],
@@ -89,7 +88,7 @@ fn control_characters_in_names_are_escaped() {
         if words[0] == "repair" {
             place.lose(directory, &[1]);
         }
-        let output = run(words);
+        let output = place.command(words).output().unwrap();
         printed.extend([output.stdout, output.stderr]);
     }
     let printed = String::from_utf8(printed.concat()).unwrap();
@@ -103,7 +102,12 @@ fn control_characters_in_names_are_escaped() {
     {
         assert!(printed.contains(name), "{printed} lacks {name}");
     }
-    // Bytes that are no text: used as they are, and shown somehow.
+}
+
+#[test]
+fn names_that_are_no_text_are_used_as_they_are() {
+    let place = Place::new("no_text");
+    fs::write(place.path("transcript"), bytes(100, 1)).unwrap();
     let odd = OsStr::from_bytes(b"odd\xff");
     let output =
         place.command(&["write", "transcript"]).arg(odd).args(["--nodes", "4", "--data", "1"]).output().unwrap();

@@ -32,22 +32,25 @@ fn a_dash_is_standard_input_and_output() {
     place.turned_back("write -", &output, USAGE, &["at most 2880 bytes"]);
 }
 
+/// What `check --json` says; its status is the program's.
+fn checked(place: &Place, status: i32) -> Json {
+    let output = place.run("check drives --json");
+    assert_eq!(output.status.code(), Some(status));
+    assert_eq!(output.stderr.is_empty(), status == 0);
+    let json = Json::read(&String::from_utf8(output.stdout).unwrap());
+    assert_eq!(json.get("status").number(), status as u64);
+    json
+}
+
+/// The states of the nodes.
+fn states(json: &Json) -> Vec<&str> {
+    json.get("nodes").items().iter().map(|node| node.get("state").text()).collect()
+}
+
 #[test]
 fn check_speaks_to_programs() {
     let place = Place::with_archive("json_check");
-    let check = |status: i32| {
-        let output = place.run("check drives --json");
-        assert_eq!(output.status.code(), Some(status));
-        assert_eq!(output.stderr.is_empty(), status == 0);
-        let json = Json::read(&String::from_utf8(output.stdout).unwrap());
-        assert_eq!(json.get("status").number(), status as u64);
-        json
-    };
-    let states = |json: &Json| {
-        let nodes = json.get("nodes").items().iter();
-        nodes.map(|node| node.get("state").text().to_string()).collect::<Vec<_>>()
-    };
-    let sound = check(0);
+    let sound = checked(&place, 0);
     assert_eq!(sound.get("verdict").text(), "sound");
     let archive = sound.get("archive");
     let numbers = ["nodes", "data", "layers", "bytes"].map(|name| archive.get(name).number());
@@ -57,7 +60,7 @@ fn check_speaks_to_programs() {
     place.swap("drives", 0, 4);
     place.truncate("drives", 1);
     place.lose("drives", &[2]);
-    let repairable = check(REPAIRABLE);
+    let repairable = checked(&place, REPAIRABLE);
     assert_eq!(repairable.get("verdict").text(), "repairable");
     assert_eq!(states(&repairable), ["good", "unreadable", "missing", "good", "good", "good"]);
     let files: Vec<&[Json]> = repairable.get("nodes").items().iter().map(|node| node.get("files").items()).collect();
@@ -66,12 +69,12 @@ fn check_speaks_to_programs() {
     assert!(repairable.get("message").text().contains("node 2 is missing"));
 
     place.lose("drives", &[0, 4]);
-    let lost = check(LOST);
+    let lost = checked(&place, LOST);
     assert_eq!(lost.get("verdict").text(), "lost");
     assert_eq!(states(&lost), ["missing", "unreadable", "missing", "readable", "missing", "readable"]);
 
     fs::remove_dir_all(place.path("drives")).unwrap();
-    assert_eq!(check(IO).get("archive"), &Json::Null);
+    assert_eq!(checked(&place, IO).get("archive"), &Json::Null);
 }
 
 #[test]
@@ -86,8 +89,7 @@ fn wrong_cards_and_names_are_told_to_programs() {
     let output = run(&["check", directory, "--json"]);
     assert_eq!(output.status.code(), Some(REPAIRABLE));
     let json = Json::read(&String::from_utf8(output.stdout).unwrap());
-    let states: Vec<&str> = json.get("nodes").items().iter().map(|node| node.get("state").text()).collect();
-    assert_eq!(states, ["good", "wrong", "good", "wrong", "good"]);
+    assert_eq!(states(&json), ["good", "wrong", "good", "wrong", "good"]);
     // The message is the line on standard error.
     let message = json.get("message").text();
     assert!(message.contains("a\"b\\c\\u{1b}\\u{7f}\\n\u{e9}/node-01.card"), "{message}");
