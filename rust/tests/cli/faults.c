@@ -1,5 +1,6 @@
 /* A library to be loaded before the C library: counts the calls that change files, and kills the program or fails the call at one of
-   them; fails or cuts short the reading of a file; and writes down which files are synced and renamed. */
+   them; fails or cuts short the reading of a file; keeps a file from getting its name; and writes
+   down which files are synced and named. */
 #define _GNU_SOURCE
 #include <dlfcn.h>
 #include <errno.h>
@@ -92,9 +93,17 @@ int fsync(int file) {
     return fault() ? -1 : REAL(fsync)(file);
 }
 
+/* Whether the file FAULT_PLACE is not to get its name. */
+static int cannot_be_placed(const char *path) {
+    const char *name = getenv("FAULT_PLACE");
+    const char *last = strrchr(path, '/');
+    errno = EIO;
+    return name && strcmp(last ? last + 1 : path, name) == 0;
+}
+
 int rename(const char *from, const char *to) {
     log_call("rename", to);
-    return fault() ? -1 : REAL(rename)(from, to);
+    return cannot_be_placed(to) || fault() ? -1 : REAL(rename)(from, to);
 }
 
 int mkdir(const char *path, mode_t mode) { return fault() ? -1 : REAL(mkdir)(path, mode); }
@@ -104,5 +113,6 @@ int flock(int file, int how) { return fault() ? -1 : REAL(flock)(file, how); }
 int fchmod(int file, mode_t mode) { return fault() ? -1 : REAL(fchmod)(file, mode); }
 
 int linkat(int from_at, const char *from, int to_at, const char *to, int flags) {
-    return fault() ? -1 : REAL(linkat)(from_at, from, to_at, to, flags);
+    log_call("link", to);
+    return cannot_be_placed(to) || fault() ? -1 : REAL(linkat)(from_at, from, to_at, to, flags);
 }
