@@ -4,7 +4,7 @@ use std::collections::BTreeMap;
 use std::fs::{self, File};
 use std::os::unix::process::ExitStatusExt;
 use std::path::{Path, PathBuf};
-use std::process::{Output, Stdio};
+use std::process::{Command, Output, Stdio};
 
 use crate::place::{bytes, Place, IO};
 
@@ -215,8 +215,11 @@ fn temporary_files_of_running_commands_stay() {
     held.lock().unwrap();
     fs::write(place.path("drives/.hmsr-notes.tmp"), "not a command's").unwrap();
     fs::write(place.path("drives/.hmsr-1-1.tmp"), "a killed command's").unwrap();
+    // No command makes a FIFO.
+    assert!(Command::new("mkfifo").arg(place.path("drives/.hmsr-1-2.tmp")).status().unwrap().success());
     place.does("repair drives");
     assert!(path.exists() && place.path("drives/.hmsr-notes.tmp").exists());
+    assert!(place.path("drives/.hmsr-1-2.tmp").exists());
     assert!(!place.path("drives/.hmsr-1-1.tmp").exists());
     // A test that starts a program at this moment may have handed it the file for an instant, so closing is not enough.
     held.unlock().unwrap();
@@ -255,11 +258,11 @@ fn commands_that_run_at_once_lose_nothing() {
     for round in 0..5 {
         let place = Place::new("at_once");
         transcript_and_directory(&place);
-        let write = "write transcript drives --nodes 12 --data 6";
+        let write = "write transcript drives --nodes 8 --data 4 --layers 1";
         assert_eq!(at_once(&place, write), [Some(0); 6], "{round}");
         let written = place.contents();
-        assert_eq!(written.len(), 1 + 1 + 1 + 12);
-        let codes = at_once(&place, "write transcript new --nodes 12 --data 6");
+        assert_eq!(written.len(), 1 + 1 + 1 + 8);
+        let codes = at_once(&place, "write transcript new --nodes 8 --data 4 --layers 1");
         assert!(codes.contains(&Some(0)) && codes.iter().all(|code| matches!(code, Some(0 | IO))), "{codes:?}");
         fs::remove_dir_all(place.path("new")).unwrap();
         assert!(place.contents() == written);

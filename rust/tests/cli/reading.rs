@@ -21,6 +21,19 @@ fn a_card_that_one_read_missed_is_not_replaced() {
     }
 }
 
+/// A drive that fails once may give wrong bytes the next time.
+#[test]
+fn a_file_that_could_not_be_read_once_is_not_replaced() {
+    let place = Place::with_archive("failed_once");
+    place.truncate("drives", 4);
+    let before = place.contents();
+    let faults = [("FAULT_READ", "drives/node-04.card"), ("FAULT_HOW", "error")];
+    let output = place.run_with_faults("repair drives", &faults);
+    place.turned_back("repair", &output, IO, &["node-04.card may be good, but cannot be read: Input/output error"]);
+    assert!(place.contents() == before);
+    place.does("repair drives");
+}
+
 #[test]
 fn reads_are_bounded() {
     let place = Place::with_archive("bounded");
