@@ -39,7 +39,7 @@ impl Agreement {
     /// The cards that do not agree, in words, where there are some.
     pub fn wrong_described(&self, cards: &Cards) -> Option<String> {
         let files = cards.files_of(&self.wrong);
-        match self.wrong.len() {
+        match self.wrong_files(cards) {
             0 => None,
             1 => Some(format!("{files} does not agree with the others: it is damaged or of another archive")),
             _ => Some(format!("{files} do not agree with the others: they are damaged or of another archive")),
@@ -48,11 +48,16 @@ impl Agreement {
 
     /// Refuses where cards do not agree.
     pub fn refuse_wrong(&self, cards: &Cards) -> Result<(), Failure> {
-        let them = if self.wrong.len() == 1 { "it" } else { "them" };
+        let them = if self.wrong_files(cards) == 1 { "it" } else { "them" };
         match self.wrong_described(cards) {
             Some(wrong) => Err(Failure::Repairable(format!("{wrong}; move {them} away, then repair"))),
             None => Ok(()),
         }
+    }
+
+    /// How many files the wrong cards are; there may be copies.
+    fn wrong_files(&self, cards: &Cards) -> usize {
+        self.wrong.iter().map(|&node| cards.names_of(node).len()).sum()
     }
 }
 

@@ -59,7 +59,7 @@ pub fn same<'a>(mut cards: impl Iterator<Item = &'a Card>) -> bool {
 }
 
 /// The names of the cards of a kind.
-pub fn names(cards: &[Card], wanted: Kind) -> String {
+fn names(cards: &[Card], wanted: Kind) -> String {
     joined(cards.iter().filter(|card| kind(card) == wanted).map(|card| card_name(card.named)))
 }
 

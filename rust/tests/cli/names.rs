@@ -100,8 +100,8 @@ fn of_two_cards_of_one_node_that_differ_neither_is_used() {
     assert!(place.contents() == written);
 }
 
-/// A card of node 1 of an archive of two bytes (n = 3, k = 1, L = 1), and that of node 2 with another length: as the
-/// issue says, one of the two headers is wrong and nothing tells which.
+/// A card of node 1 of an archive of two bytes (n = 3, k = 1, L = 1), and that of node 2 with another length: one of
+/// the two headers is wrong, and nothing tells which.
 #[test]
 fn of_two_headers_that_differ_neither_is_used() {
     let place = Place::new("two_headers");

@@ -6,7 +6,7 @@ use std::process::{Command, Output};
 
 pub const ARCHIVE: &str = env!("CARGO_BIN_EXE_hmsr");
 
-/// The exit statuses, as the issue lays them down.
+/// The exit statuses, as the README has them.
 pub const REPAIRABLE: i32 = 1;
 pub const LOST: i32 = 2;
 pub const USAGE: i32 = 3;

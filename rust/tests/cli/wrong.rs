@@ -60,6 +60,21 @@ fn more_wrong_cards_than_the_distance_allows_cannot_be_told() {
     );
 }
 
+#[test]
+fn copies_of_a_wrong_card_are_named_with_it() {
+    let place = archive("wrong_copies");
+    let written = place.contents();
+    place.damage("drives", 5);
+    fs::copy(place.card("drives", 5), place.card("drives", 20)).unwrap();
+    let named = "drives/node-05.card, drives/node-20.card do not agree with the others";
+    for line in ["check drives", "repair drives"] {
+        place.refuses(line, REPAIRABLE, &[named, "move them away, then repair"]);
+    }
+    place.lose("drives", &[5, 20]);
+    place.does("repair drives");
+    assert!(place.contents() == written);
+}
+
 /// Every pair of wrong cards of a directory with k + 4 of 6 cards, at k = 2.
 #[test]
 fn every_pair_of_wrong_cards_is_named() {
