@@ -1,5 +1,5 @@
 //! The program `hmsr`: prints what a command reports, or one line that says why it turned back.
-#![forbid(unsafe_code)]
+#![deny(unsafe_code)]
 
 mod cli;
 
@@ -7,37 +7,26 @@ use std::env;
 use std::io::{self, Write};
 use std::process::ExitCode;
 
-use cli::Failure;
+use cli::{Failure, Report};
 
 fn main() -> ExitCode {
+    cli::ignore_file_size_limit();
     match cli::run(env::args_os().skip(1).collect()).and_then(print) {
         Ok(()) => ExitCode::SUCCESS,
         Err(failure) => {
-            complain(&failure);
-            ExitCode::FAILURE
+            // Nothing more can be done if that fails.
+            let _ = writeln!(io::stderr(), "hmsr: {}", cli::one_line(failure.message()));
+            ExitCode::from(failure.status())
         }
     }
 }
 
 /// Prints a report. A closed pipe is a failure like any other.
-fn print(report: String) -> Result<(), Failure> {
+fn print(report: Report) -> Result<(), Failure> {
     let mut out = io::stdout().lock();
-    out.write_all(report.as_bytes())
+    out.write_all(report.text.as_bytes())
         .and_then(|()| out.flush())
-        .map_err(|e| Failure::Work(format!("the work is done, but its report cannot be printed: {e}")))
-}
-
-/// One line, and behind it the usage where the arguments were not understood. Nothing more can be done if that fails.
-fn complain(failure: &Failure) {
-    let (message, usage) = match failure {
-        Failure::Work(message) => (message, ""),
-        Failure::Usage(message) => (message, cli::USAGE),
-    };
-    let _ = write!(io::stderr(), "hmsr: {}\n{usage}", one_line(message));
-}
-
-/// A message without line ends or other control characters, which file names may have.
-fn one_line(message: &str) -> String {
-    let shown = |c: char| if c.is_control() { c.escape_default().to_string() } else { c.to_string() };
-    message.chars().map(shown).collect()
+        .and_then(|()| io::stderr().write_all(report.aside.as_bytes()))
+        .map_err(|e| Failure::Io(format!("the work is done, but its report cannot be printed: {e}")))?;
+    report.failure.map_or(Ok(()), Err)
 }

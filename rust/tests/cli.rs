@@ -1,127 +1,32 @@
 //! The command line: archives that live through repair after repair, and bad input that is turned back with one line and
 //! leaves everything as it was.
-use std::collections::BTreeMap;
 use std::fs;
 use std::os::unix::fs::{symlink, PermissionsExt};
-use std::path::{Path, PathBuf};
-use std::process::{Command, Output};
 
-const ARCHIVE: &str = env!("CARGO_BIN_EXE_hmsr");
+#[path = "cli/arguments.rs"]
+mod arguments;
+#[path = "cli/faults.rs"]
+mod faults;
+#[path = "cli/files.rs"]
+mod files;
+#[path = "cli/json.rs"]
+mod json;
+#[path = "cli/kills.rs"]
+mod kills;
+#[path = "cli/names.rs"]
+mod names;
+#[path = "cli/options.rs"]
+mod options;
+#[path = "cli/place.rs"]
+mod place;
+#[path = "cli/reading.rs"]
+mod reading;
+#[path = "cli/traffic.rs"]
+mod traffic;
+#[path = "cli/wrong.rs"]
+mod wrong;
 
-/// A directory of its own for a test, empty at first.
-struct Place(PathBuf);
-
-impl Place {
-    fn new(test: &str) -> Place {
-        let path = Path::new(env!("CARGO_TARGET_TMPDIR")).join("cli").join(test);
-        let _ = fs::remove_dir_all(&path);
-        fs::create_dir_all(&path).unwrap();
-        Place(path)
-    }
-
-    fn path(&self, name: &str) -> PathBuf {
-        self.0.join(name)
-    }
-
-    /// Runs the program here. A limit is the most bytes, in blocks of 512, that it may write into a file.
-    fn run_with_limit(&self, words: &[&str], limit: &str) -> Output {
-        let script = format!("trap '' XFSZ; ulimit -f {limit}; exec \"$@\"");
-        let mut command = Command::new("sh");
-        command.args(["-c", &script, "sh", ARCHIVE]).args(words).current_dir(&self.0).env("TMPDIR", &self.0);
-        command.output().unwrap()
-    }
-
-    fn run(&self, line: &str) -> Output {
-        self.run_with_limit(&line.split(' ').collect::<Vec<_>>(), "unlimited")
-    }
-
-    /// Runs a command that must do its work, and gives what it prints.
-    fn does(&self, line: &str) -> String {
-        let output = self.run(line);
-        let complaint = String::from_utf8_lossy(&output.stderr).into_owned();
-        assert!(output.status.success() && complaint.is_empty(), "{line}: {complaint}");
-        String::from_utf8(output.stdout).unwrap()
-    }
-
-    /// Runs a command that must turn back: status 1, nothing printed, one line of complaint with these words, and every
-    /// file as it was.
-    fn refuses(&self, line: &str, words: &[&str]) {
-        let before = self.contents();
-        let output = self.run(line);
-        self.turned_back(line, &output, words);
-        assert!(before == self.contents(), "{line}: files have changed");
-    }
-
-    fn turned_back(&self, line: &str, output: &Output, words: &[&str]) {
-        let complaint = String::from_utf8(output.stderr.clone()).unwrap();
-        assert_eq!(output.status.code(), Some(1), "{line}: {complaint}");
-        assert!(output.stdout.is_empty(), "{line}");
-        assert!(complaint.starts_with("hmsr: ") && complaint.ends_with('\n'), "{line}: {complaint}");
-        assert_eq!(complaint.matches('\n').count(), 1, "{line}: {complaint}");
-        for word in words {
-            assert!(complaint.contains(word), "{line}: {complaint} lacks {word}");
-        }
-    }
-
-    /// Every file and directory below, with its bytes.
-    fn contents(&self) -> BTreeMap<PathBuf, Option<Vec<u8>>> {
-        let mut found = BTreeMap::new();
-        let mut open = vec![self.0.clone()];
-        while let Some(directory) = open.pop() {
-            for entry in fs::read_dir(&directory).unwrap() {
-                let path = entry.unwrap().path();
-                found.insert(path.clone(), fs::read(&path).ok());
-                open.extend(Some(path).filter(|path| path.is_dir()));
-            }
-        }
-        found
-    }
-
-    fn card(&self, directory: &str, node: usize) -> PathBuf {
-        self.path(directory).join(format!("node-{node:02}.card"))
-    }
-
-    fn lose(&self, directory: &str, nodes: &[usize]) {
-        for &node in nodes {
-            fs::remove_file(self.card(directory, node)).unwrap();
-        }
-    }
-
-    /// Changes the last symbol of a card, of one byte or two, by one: the card can still be read.
-    fn damage(&self, directory: &str, node: usize) {
-        let path = self.card(directory, node);
-        let mut card = fs::read(&path).unwrap();
-        let last = card.len() - 1;
-        assert!(card[last] != 2, "the last symbol is 256");
-        let low = if card[last - 1] >= 128 { last - 1 } else { last };
-        card[low] ^= 1;
-        fs::write(path, card).unwrap();
-    }
-
-    fn truncate(&self, directory: &str, node: usize) {
-        let path = self.card(directory, node);
-        let card = fs::read(&path).unwrap();
-        fs::write(path, &card[..card.len() / 2]).unwrap();
-    }
-
-    /// A transcript and its archive in `drives`: n = 6, k = 3, so that two nodes can be repaired.
-    fn with_archive(test: &str) -> Place {
-        let place = Place::new(test);
-        fs::write(place.path("transcript"), bytes(500, 1)).unwrap();
-        place.does("write transcript drives --nodes 6 --data 3");
-        place
-    }
-}
-
-/// Some bytes, every value among them where there are enough.
-fn bytes(count: usize, seed: u32) -> Vec<u8> {
-    let mut state = seed;
-    let mut next = || {
-        state = state.wrapping_mul(1_664_525).wrapping_add(1_013_904_223);
-        (state >> 24) as u8
-    };
-    (0..count).map(|_| next()).collect()
-}
+use place::{bytes, Place, IO, LOST, REPAIRABLE, USAGE};
 
 // ---- the work
 
@@ -213,7 +118,8 @@ fn layers_are_chosen_to_fit_and_to_be_repaired() {
     ];
     for (nodes, data, file, layers) in expected {
         let report = place.does(&format!("write {file} {nodes}-{data} --nodes {nodes} --data {data}"));
-        assert!(report.contains(&format!("\n{layers} layers")), "{nodes} {data}: {report}");
+        let layers = if layers == 1 { "1 layer,".to_string() } else { format!("{layers} layers,") };
+        assert!(report.contains(&format!("\n{layers}")), "{nodes} {data}: {report}");
     }
     assert!(place.does("check 12-1").starts_with("sound"));
 }
@@ -226,7 +132,7 @@ fn a_loss_that_the_layers_forbid_is_repaired_in_several_goes() {
     let written = place.contents();
     place.lose("drives", &[0, 2, 5, 6]);
     let report = place.does("repair drives");
-    assert!(report.contains("repair of nodes 0, 2, 5 with") && report.contains("repair of nodes 6 with"), "{report}");
+    assert!(report.contains("repair of nodes 0, 2, 5 with") && report.contains("repair of node 6 with"), "{report}");
     assert!(place.contents() == written);
 }
 
@@ -236,27 +142,11 @@ fn named_dead_and_helpers_are_used() {
     let written = place.contents();
     place.lose("drives", &[0, 5]);
     let report = place.does("repair drives --dead 5 --helpers 4,3,2,1");
-    assert!(report.starts_with("repair of nodes 5 with the help of nodes 1, 2, 3, 4\n"), "{report}");
+    assert!(report.starts_with("repair of node 5 with the help of nodes 1, 2, 3, 4\n"), "{report}");
     assert!(place.card("drives", 5).exists() && !place.card("drives", 0).exists());
     place.does("repair drives --dead=0,0 --helpers=1,2,4,5,1");
     assert!(place.contents() == written);
     assert!(place.does("repair drives").starts_with("nothing to repair"));
-}
-
-#[test]
-fn a_repair_prints_its_plan_in_bytes() {
-    let place = Place::new("bytes");
-    fs::write(place.path("transcript"), bytes(20, 3)).unwrap();
-    place.does("write transcript drives --nodes 4 --data 1");
-    place.lose("drives", &[0, 1]);
-    let report = place.does("repair drives");
-    let lines: Vec<Vec<&str>> = report.lines().map(|line| line.split_whitespace().collect()).collect();
-    // Document 01's plan for this repair, at two bytes a symbol.
-    let messages = [["2", "0"], ["3", "0"], ["2", "1"], ["3", "1"], ["1", "0"], ["0", "1"]];
-    for (line, message) in lines[2..].iter().zip(messages) {
-        assert_eq!(*line, [message[0], message[1], "16", "32"]);
-    }
-    assert!(lines[8].starts_with(&["192", "bytes", "in", "all;"]), "{report}");
 }
 
 #[test]
@@ -284,7 +174,7 @@ fn unreadable_cards_are_passed_over_and_made_anew() {
     assert!(report.contains("from nodes 0, 2, 3\n") && report.contains("node 1 cannot be read"), "{report}");
     assert_eq!(fs::read(place.path("opened")).unwrap(), bytes(500, 1));
     fs::remove_file(place.path("opened")).unwrap();
-    place.refuses("check drives", &["node 1 cannot be read", "node 4 cannot be read", "repair"]);
+    place.refuses("check drives", REPAIRABLE, &["node 1 cannot be read", "node 4 cannot be read", "repair"]);
     place.does("repair drives");
     assert!(place.contents() == written);
 }
@@ -294,8 +184,8 @@ fn unreadable_cards_are_passed_over_and_made_anew() {
 #[test]
 fn a_transcript_that_cannot_be_read_is_refused() {
     let place = Place::with_archive("transcript");
-    place.refuses("write nothing new --nodes 6 --data 3", &["cannot read nothing"]);
-    place.refuses("write drives new --nodes 6 --data 3", &["cannot read drives"]);
+    place.refuses("write nothing new --nodes 6 --data 3", IO, &["cannot read nothing"]);
+    place.refuses("write drives new --nodes 6 --data 3", IO, &["cannot read drives"]);
 }
 
 #[test]
@@ -304,10 +194,9 @@ fn a_transcript_that_is_too_long_is_refused() {
     fs::write(place.path("long"), bytes(3 * 15 * 64, 1)).unwrap();
     place.does("write long fits --nodes 6 --data 3");
     fs::write(place.path("long"), bytes(3 * 15 * 64 + 1, 1)).unwrap();
-    place.refuses("write long new --nodes 6 --data 3", &["at most 2880 bytes"]);
-    place.refuses("write /dev/zero new --nodes 6 --data 3", &["at most 2880 bytes"]);
-    place.refuses("write transcript new --nodes 6 --data 3 --layers 2", &["--layers 3"]);
-    place.refuses("write long new --nodes 6 --data 3 --layers 2", &["at most 2880 bytes"]);
+    place.refuses("write long new --nodes 6 --data 3", USAGE, &["at most 2880 bytes"]);
+    place.refuses("write transcript new --nodes 6 --data 3 --layers 2", USAGE, &["--layers 3"]);
+    place.refuses("write long new --nodes 6 --data 3 --layers 2", USAGE, &["at most 2880 bytes"]);
 }
 
 #[test]
@@ -322,7 +211,7 @@ fn shapes_outside_the_ranges_are_refused() {
         "--nodes 6 --data 3 --layers 16",
         "--nodes 18446744073709551615 --data 18446744073709551615 --layers 18446744073709551615",
     ] {
-        place.refuses(&format!("write transcript new {shape}"), &["refusal 1", "3 to 12"]);
+        place.refuses(&format!("write transcript new {shape}"), USAGE, &["refusal 1", "3 to 12"]);
     }
 }
 
@@ -330,22 +219,22 @@ fn shapes_outside_the_ranges_are_refused() {
 fn cards_are_never_written_over() {
     let place = Place::with_archive("over");
     fs::write(place.path("other"), bytes(20, 9)).unwrap();
-    place.refuses("write other drives --nodes 4 --data 1", &["node-00.card is there already"]);
-    place.refuses("write transcript drives --nodes 6 --data 3", &["node-00.card is there already"]);
+    place.refuses("write other drives --nodes 4 --data 1", IO, &["node-00.card is there already"]);
+    place.refuses("write transcript drives --nodes 6 --data 2", IO, &["node-00.card is there already"]);
     place.lose("drives", &[0, 1, 2, 3, 4]);
-    place.refuses("write other drives --nodes 4 --data 1", &["node-05.card is there already"]);
+    place.refuses("write other drives --nodes 4 --data 1", IO, &["node-05.card is there already"]);
     place.truncate("drives", 5);
-    place.refuses("write other drives --nodes 4 --data 1", &["node-05.card is there already"]);
+    place.refuses("write other drives --nodes 4 --data 1", IO, &["node-05.card is there already"]);
 }
 
 #[test]
 fn directories_that_cannot_be_written_are_refused() {
     let place = Place::with_archive("unwritable");
-    place.refuses("write transcript transcript --nodes 6 --data 3", &["transcript"]);
-    place.refuses("write transcript no/where --nodes 6 --data 3", &["cannot make the directory no/where"]);
-    place.refuses("write transcript /proc --nodes 6 --data 3", &["cannot write cards into /proc"]);
-    place.refuses("open drives /proc/opened", &["cannot write /proc/opened"]);
-    place.refuses("open drives no/where", &["cannot write no/where"]);
+    place.refuses("write transcript transcript --nodes 6 --data 3", IO, &["transcript"]);
+    place.refuses("write transcript no/where --nodes 6 --data 3", IO, &["cannot make the directory no/where"]);
+    place.refuses("write transcript /proc --nodes 6 --data 3", IO, &["cannot write cards into /proc"]);
+    place.refuses("open drives /proc/opened", IO, &["cannot write /proc/opened"]);
+    place.refuses("open drives no/where", IO, &["cannot write no/where"]);
 }
 
 #[test]
@@ -355,16 +244,16 @@ fn a_full_disk_leaves_nothing_behind() {
     place.truncate("drives", 4);
     let before = place.contents();
     for line in ["write transcript new --nodes 6 --data 3", "repair drives", "open drives opened"] {
-        let output = place.run_with_limit(&line.split(' ').collect::<Vec<_>>(), "0");
-        place.turned_back(line, &output, &["cannot write"]);
+        let output = place.run_with_limit(&line.split(' ').collect::<Vec<_>>(), "-f 0");
+        place.turned_back(line, &output, IO, &["cannot write"]);
         assert!(place.contents() == before, "{line}");
     }
     // Nodes 0 and 1 are zeros, and their cards take less than a block of 512 bytes; the others' take more.
     fs::write(place.path("transcript"), [vec![0; 2 * 448], vec![0xFF; 400]].concat()).unwrap();
     let before = place.contents();
     let words = ["write", "transcript", "new", "--nodes", "5", "--data", "3", "--layers", "14"];
-    let output = place.run_with_limit(&words, "1");
-    place.turned_back("write", &output, &["cannot write cards into new"]);
+    let output = place.run_with_limit(&words, "-f 1");
+    place.turned_back("write", &output, IO, &["cannot write cards into new"]);
     assert!(place.contents() == before);
 }
 
@@ -372,18 +261,18 @@ fn a_full_disk_leaves_nothing_behind() {
 fn a_place_without_cards_is_refused() {
     let place = Place::with_archive("without");
     fs::create_dir(place.path("bare")).unwrap();
-    for (line, words) in [
-        ("check bare", "bare holds no cards"),
-        ("open bare opened", "bare holds no cards"),
-        ("repair bare", "bare holds no cards"),
-        ("check nothing", "cannot read the directory nothing"),
-        ("open nothing opened", "cannot read the directory nothing"),
-        ("repair transcript", "cannot read the directory transcript"),
-        ("info nothing", "nothing is not a readable card"),
-        ("info drives", "not a file"),
-        ("info transcript", "transcript is not a readable card"),
+    for (line, status, words) in [
+        ("check bare", LOST, "bare holds no cards"),
+        ("open bare opened", LOST, "bare holds no cards"),
+        ("repair bare", LOST, "bare holds no cards"),
+        ("check nothing", IO, "cannot read the directory nothing"),
+        ("open nothing opened", IO, "cannot read the directory nothing"),
+        ("repair transcript", IO, "cannot read the directory transcript"),
+        ("info nothing", IO, "nothing is not a readable card"),
+        ("info drives", IO, "not a file"),
+        ("info transcript", LOST, "transcript is not a readable card"),
     ] {
-        place.refuses(line, &[words]);
+        place.refuses(line, status, &[words]);
     }
 }
 
@@ -393,9 +282,9 @@ fn damaged_cards_alone_are_refused() {
     for node in 0..6 {
         place.truncate("drives", node);
     }
-    place.refuses("info drives/node-02.card", &["refusal 6"]);
+    place.refuses("info drives/node-02.card", LOST, &["refusal 6"]);
     for line in ["check drives", "open drives opened", "repair drives"] {
-        place.refuses(line, &["no card in drives can be read", "refusal 6"]);
+        place.refuses(line, LOST, &["no card in drives can be read", "refusal 6"]);
     }
 }
 
@@ -403,14 +292,15 @@ fn damaged_cards_alone_are_refused() {
 fn too_few_cards_are_refused() {
     let place = Place::with_archive("few");
     place.lose("drives", &[0, 2, 4]);
-    place.refuses("repair drives", &["nodes 1, 3, 5", "4 are needed", "open"]);
-    place.refuses("check drives", &["node 0 is missing, node 2 is missing, node 4 is missing", "just enough"]);
+    place.refuses("repair drives", REPAIRABLE, &["nodes 1, 3, 5", "4 are needed", "open"]);
+    let words = ["node 0 is missing, node 2 is missing, node 4 is missing", "just enough"];
+    place.refuses("check drives", REPAIRABLE, &words);
     place.does("open drives opened");
     place.lose("drives", &[3]);
     for line in ["check drives", "open drives again"] {
-        place.refuses(line, &["nodes 1, 5", "3 are needed"]);
+        place.refuses(line, LOST, &["nodes 1, 5", "3 are needed"]);
     }
-    place.refuses("repair drives", &["nodes 1, 5", "4 are needed"]);
+    place.refuses("repair drives", LOST, &["nodes 1, 5", "3 are needed"]);
 }
 
 #[test]
@@ -426,22 +316,8 @@ fn cards_of_other_shape_or_length_are_refused() {
         place.does(&format!("write other others {arguments}"));
         fs::copy(place.card("others", 2), place.card("drives", 2)).unwrap();
         for line in ["check drives", "open drives opened", "repair drives"] {
-            place.refuses(line, &["node-02.card is of another archive"]);
+            place.refuses(line, REPAIRABLE, &["node-02.card is of another archive"]);
         }
-    }
-}
-
-#[test]
-fn a_card_under_another_name_is_refused() {
-    let place = Place::with_archive("renamed");
-    fs::rename(place.card("drives", 5), place.card("drives", 6)).unwrap();
-    for line in ["check drives", "open drives opened", "repair drives"] {
-        place.refuses(line, &["node-06.card is the card of node 5"]);
-    }
-    fs::rename(place.card("drives", 6), place.card("drives", 5)).unwrap();
-    fs::copy(place.card("drives", 4), place.card("drives", 3)).unwrap();
-    for line in ["check drives", "open drives opened", "repair drives"] {
-        place.refuses(line, &["node-03.card is the card of node 4"]);
     }
 }
 
@@ -451,18 +327,18 @@ fn a_card_of_another_transcript_is_named() {
     fs::write(place.path("other"), bytes(500, 2)).unwrap();
     place.does("write other others --nodes 6 --data 3");
     fs::copy(place.card("others", 1), place.card("drives", 1)).unwrap();
-    place.refuses("check drives", &["not sound", "layer 0, a = 0, t = 0", "node-01.card does not agree"]);
-    for line in ["open drives opened", "repair drives"] {
-        place.refuses(line, &["node-01.card does not agree"]);
-    }
+    let words = ["not sound", "layer 0, a = 0, t = 0", "node-01.card does not agree"];
+    place.refuses("check drives", REPAIRABLE, &words);
+    place.refuses("repair drives", REPAIRABLE, &["node-01.card does not agree"]);
     place.lose("drives", &[0]);
-    for line in ["check drives", "open drives opened", "repair drives"] {
-        place.refuses(line, &["node-01.card does not agree"]);
+    for line in ["check drives", "repair drives"] {
+        place.refuses(line, REPAIRABLE, &["node-01.card does not agree", "move it away"]);
     }
+    assert!(place.opens("drives", &bytes(500, 1)).contains("node-01.card does not agree"));
     // Of k + 1 cards any one may be the wrong one.
     place.lose("drives", &[2]);
     for line in ["check drives", "open drives opened", "repair drives"] {
-        place.refuses(line, &["nodes 1, 3, 4, 5 do not agree", "cannot be told"]);
+        place.refuses(line, LOST, &["nodes 1, 3, 4, 5 do not agree", "cannot be told"]);
     }
 }
 
@@ -471,10 +347,10 @@ fn a_damaged_card_that_can_be_read_is_named() {
     let place = Place::with_archive("damaged");
     let written = place.contents();
     place.damage("drives", 3);
-    place.refuses("check drives", &["not sound", "layer 2, a = 63, t = 0", "node-03.card does not agree"]);
-    for line in ["open drives opened", "repair drives"] {
-        place.refuses(line, &["node-03.card does not agree"]);
-    }
+    let words = ["not sound", "layer 2, a = 63, t = 0", "node-03.card does not agree"];
+    place.refuses("check drives", REPAIRABLE, &words);
+    place.refuses("repair drives", REPAIRABLE, &["node-03.card does not agree"]);
+    assert!(place.opens("drives", &bytes(500, 1)).contains("node-03.card does not agree"));
     place.lose("drives", &[3]);
     place.does("repair drives");
     assert!(place.contents() == written);
@@ -486,7 +362,7 @@ fn several_damaged_cards_are_reported() {
     place.damage("drives", 3);
     place.damage("drives", 4);
     for line in ["check drives", "open drives opened", "repair drives"] {
-        place.refuses(line, &["do not agree", "cannot be told"]);
+        place.refuses(line, LOST, &["do not agree", "cannot be told"]);
     }
 }
 
@@ -501,7 +377,7 @@ fn a_wrong_length_in_all_cards_is_refused() {
         fs::write(place.card("drives", node), card).unwrap();
     }
     for line in ["check drives", "open drives opened"] {
-        place.refuses(line, &["refusal 7"]);
+        place.refuses(line, LOST, &["refusal 7"]);
     }
 }
 
@@ -509,23 +385,23 @@ fn a_wrong_length_in_all_cards_is_refused() {
 fn a_file_that_is_there_is_not_opened_into() {
     let place = Place::with_archive("out");
     for out in ["transcript", "drives", "drives/node-00.card"] {
-        place.refuses(&format!("open drives {out}"), &[out, "is there already"]);
+        place.refuses(&format!("open drives {out}"), IO, &[out, "is there already"]);
     }
     symlink("nowhere", place.path("link")).unwrap();
-    place.refuses("open drives link", &["link is there already"]);
+    place.refuses("open drives link", IO, &["link is there already"]);
 }
 
 #[test]
 fn dead_and_helpers_that_cannot_be_are_refused() {
     let place = Place::with_archive("lists");
     place.lose("drives", &[0]);
-    place.refuses("repair drives --dead 1", &["node 1 is not dead"]);
-    place.refuses("repair drives --dead 6", &["there is no node 6"]);
-    place.refuses("repair drives --helpers 0,1,2,3", &["node 0 cannot help"]);
-    place.refuses("repair drives --helpers 1,2,3,18446744073709551615", &["there is no node"]);
-    place.refuses("repair drives --helpers 1,2,3", &["refusal 2", "exactly 4 helpers"]);
-    place.refuses("repair drives --helpers 1,2,3,4,5", &["refusal 2"]);
-    place.refuses("repair drives --helpers 1,2,3,3", &["refusal 2"]);
+    place.refuses("repair drives --dead 1", USAGE, &["node 1 is not dead"]);
+    place.refuses("repair drives --dead 6", USAGE, &["there is no node 6"]);
+    place.refuses("repair drives --helpers 0,1,2,3", USAGE, &["node 0 cannot help"]);
+    place.refuses("repair drives --helpers 1,2,3,18446744073709551615", USAGE, &["there is no node"]);
+    place.refuses("repair drives --helpers 1,2,3", USAGE, &["refusal 2", "exactly 4 helpers"]);
+    place.refuses("repair drives --helpers 1,2,3,4,5", USAGE, &["refusal 2"]);
+    place.refuses("repair drives --helpers 1,2,3,3", USAGE, &["refusal 2"]);
 }
 
 #[test]
@@ -533,10 +409,10 @@ fn only_files_are_replaced() {
     let place = Place::with_archive("not_files");
     place.lose("drives", &[0, 1]);
     fs::create_dir(place.card("drives", 1)).unwrap();
-    place.refuses("repair drives", &["node-01.card is not a file"]);
+    place.refuses("repair drives", IO, &["node-01.card is not a file"]);
     fs::remove_dir(place.card("drives", 1)).unwrap();
     symlink("../transcript", place.card("drives", 1)).unwrap();
-    place.refuses("repair drives", &["node-01.card is not a file"]);
+    place.refuses("repair drives", IO, &["node-01.card is not a file"]);
 }
 
 #[test]
@@ -547,7 +423,7 @@ fn a_good_card_that_may_not_be_read_is_not_replaced() {
     set_mode(0);
     // The superuser may read it all the same, and then nothing is to be repaired.
     if fs::read(place.card("drives", 1)).is_err() {
-        place.refuses("repair drives", &["node-01.card may be good"]);
+        place.refuses("repair drives", IO, &["node-01.card may be good"]);
     } else {
         assert!(place.does("repair drives").starts_with("nothing to repair"));
     }
@@ -558,45 +434,8 @@ fn a_good_card_that_may_not_be_read_is_not_replaced() {
 #[test]
 fn plans_of_no_repair_are_refused() {
     let place = Place::new("no_plan");
-    place.refuses("plan --nodes 2 --data 1 --layers 3 --dead 0 --helpers 2,3", &["refusal 1"]);
-    place.refuses("plan --nodes 3 --data 1 --layers 3 --dead 0,1 --helpers 2", &["refusal 2"]);
-    place.refuses("plan --nodes 4 --data 1 --layers 1 --dead 0,1 --helpers 2,3", &["refusal 3"]);
-    place.refuses("plan --nodes 9999999 --data 1 --layers 1 --dead 0,1 --helpers 2,3", &["refusal 6"]);
-}
-
-#[test]
-fn a_name_with_a_line_end_is_told_on_one_line() {
-    let place = Place::new("line_end");
-    let output = place.run_with_limit(&["info", "two\nlines"], "unlimited");
-    place.turned_back("info", &output, &["two\\nlines is not a readable card"]);
-}
-
-#[test]
-fn arguments_that_are_not_understood_show_the_usage() {
-    let place = Place::new("usage");
-    for (line, complaint) in [
-        ("burn drives", "there is no command burn"),
-        ("write transcript", "DIR is missing"),
-        ("write transcript drives --data 1", "--nodes is missing"),
-        ("write transcript drives --nodes six --data 1", "--nodes: six is not a whole number"),
-        ("write transcript drives --nodes -1 --data 1", "--nodes: -1 is not a whole number"),
-        ("write transcript drives --nodes 6 --nodes 6", "--nodes is given twice"),
-        ("write transcript drives --nodes", "--nodes needs a value"),
-        ("check drives others", "what is others for?"),
-        ("check drives --force", "there is no option --force here"),
-        ("repair drives --dead 1,,2", "--dead:  is not a whole number"),
-        ("plan --nodes 4 --data 1 --layers 3 --dead 0", "--helpers is missing"),
-    ] {
-        let output = place.run(line);
-        let complaints = String::from_utf8(output.stderr).unwrap();
-        assert_eq!(output.status.code(), Some(1), "{line}");
-        assert!(output.stdout.is_empty() && complaints.contains("hmsr repair DIR"), "{line}");
-        assert_eq!(complaints.lines().next(), Some(&*format!("hmsr: {complaint}")), "{line}");
-    }
-    let output = place.run_with_limit(&[], "unlimited");
-    assert_eq!(output.status.code(), Some(1));
-    assert!(String::from_utf8(output.stderr).unwrap().contains("hmsr write FILE DIR"));
-    for line in ["--help", "help", "repair --help"] {
-        assert!(place.does(line).contains("hmsr write FILE DIR"), "{line}");
-    }
+    place.refuses("plan --nodes 2 --data 1 --layers 3 --dead 0 --helpers 2,3", USAGE, &["refusal 1"]);
+    place.refuses("plan --nodes 3 --data 1 --layers 3 --dead 0,1 --helpers 2", USAGE, &["refusal 2"]);
+    place.refuses("plan --nodes 4 --data 1 --layers 1 --dead 0,1 --helpers 2,3", USAGE, &["refusal 3"]);
+    place.refuses("plan --nodes 9999999 --data 1 --layers 1 --dead 0,1 --helpers 2,3", USAGE, &["refusal 6"]);
 }

@@ -427,8 +427,7 @@ fn plan() {
             }
             _ => {}
         }
-        let text_length =
-            if random.once_in(20) { hmsr::PLAN_TEXT - 1 } else { hmsr::PLAN_TEXT + random.below(9) };
+        let text_length = if random.once_in(20) { hmsr::PLAN_TEXT - 1 } else { hmsr::PLAN_TEXT + random.below(9) };
         compare::plan(random, &input, text_length)
     });
 }

@@ -1,49 +1,68 @@
-//! The arguments of a command: words in their order, and options with values.
+//! The arguments of a command: words in their order, options with values, and flags.
 use std::ffi::{OsStr, OsString};
+use std::num::IntErrorKind;
 use std::path::Path;
 
-use super::Failure;
+use super::{Command, Failure};
 
+#[derive(Default)]
 pub struct Args {
     words: Vec<OsString>,
     options: Vec<(String, String)>,
+    flags: Vec<String>,
+}
+
+/// Whether `--help` or `-h` is among the arguments before `--`.
+pub fn asks_for_help(given: &[OsString]) -> bool {
+    given.iter().take_while(|word| *word != "--").any(|word| word == "--help" || word == "-h")
 }
 
 impl Args {
-    /// Takes exactly the named words, and each of the options once at most, as `--name value` or `--name=value`.
-    pub fn parse(given: &[OsString], words: &[&'static str], options: &[&str]) -> Result<Args, Failure> {
-        let mut args = Args { words: Vec::new(), options: Vec::new() };
+    /// Takes exactly the words of the command, and each of its options once at most, as `--name value` or
+    /// `--name=value`. Behind `--` all are words; `-` is a word.
+    pub fn parse(given: &[OsString], command: &Command) -> Result<Args, Failure> {
+        let mut args = Args::default();
         let mut given = given.iter();
         while let Some(word) = given.next() {
-            match word.to_str().filter(|text| text.starts_with("--")) {
-                Some(option) => args.take_option(option, &mut given, options)?,
-                None => args.words.push(word.clone()),
+            if word == "--" {
+                args.words.extend(given.by_ref().cloned());
+            } else if word.as_encoded_bytes().starts_with(b"-") && word != "-" {
+                args.take_option(&word.to_string_lossy(), &mut given, command)?;
+            } else {
+                args.words.push(word.clone());
             }
         }
-        match (args.words.get(words.len()), words.get(args.words.len())) {
-            (Some(extra), _) => Err(Failure::Usage(format!("what is {} for?", extra.to_string_lossy()))),
-            (None, Some(missing)) => Err(Failure::Usage(format!("{missing} is missing"))),
+        match (args.words.get(command.words.len()), command.words.get(args.words.len())) {
+            (Some(extra), _) => Err(Failure::argument(&format!("what is {} for?", extra.to_string_lossy()))),
+            (None, Some(missing)) => Err(Failure::argument(&format!("{missing} is missing"))),
             (None, None) => Ok(args),
         }
     }
 
-    /// Takes one option, whose value may be the next word.
+    /// Takes a flag, or an option whose value may be the next word.
     fn take_option<'a>(
-        &mut self, option: &str, rest: &mut impl Iterator<Item = &'a OsString>, options: &[&str],
+        &mut self, option: &str, rest: &mut impl Iterator<Item = &'a OsString>, command: &Command,
     ) -> Result<(), Failure> {
         let (name, joined) = match option.split_once('=') {
             Some((name, value)) => (name, Some(value.to_string())),
             None => (option, None),
         };
-        if !options.contains(&name) {
-            return Err(Failure::Usage(format!("there is no option {name} here")));
+        if self.has(name) || self.option(name).is_some() {
+            return Err(Failure::argument(&format!("{name} is given twice")));
         }
-        if self.option(name).is_some() {
-            return Err(Failure::Usage(format!("{name} is given twice")));
+        if command.flags.contains(&name) {
+            self.flags.push(name.to_string());
+            return match joined {
+                Some(_) => Err(Failure::argument(&format!("{name} takes no value"))),
+                None => Ok(()),
+            };
+        }
+        if !command.options.contains(&name) {
+            return Err(Failure::argument(&format!("there is no option {name} here")));
         }
         let next = || rest.next().map(|value| value.to_string_lossy().into_owned());
         let Some(value) = joined.or_else(next) else {
-            return Err(Failure::Usage(format!("{name} needs a value")));
+            return Err(Failure::argument(&format!("{name} needs a value")));
         };
         self.options.push((name.to_string(), value));
         Ok(())
@@ -51,6 +70,11 @@ impl Args {
 
     fn option(&self, name: &str) -> Option<&str> {
         self.options.iter().find(|(given, _)| given == name).map(|(_, value)| value.as_str())
+    }
+
+    /// Whether a flag is given.
+    pub fn has(&self, flag: &str) -> bool {
+        self.flags.iter().any(|given| given == flag)
     }
 
     /// The word at a place, as a path.
@@ -65,7 +89,7 @@ impl Args {
 
     /// An option's number.
     pub fn required_number(&self, name: &str) -> Result<usize, Failure> {
-        self.number(name)?.ok_or_else(|| Failure::Usage(format!("{name} is missing")))
+        self.number(name)?.ok_or_else(|| missing(name))
     }
 
     /// An option's node numbers, rising and each once, where they are given.
@@ -81,10 +105,17 @@ impl Args {
 
     /// An option's node numbers, rising.
     pub fn required_list(&self, name: &str) -> Result<Vec<usize>, Failure> {
-        self.list(name)?.ok_or_else(|| Failure::Usage(format!("{name} is missing")))
+        self.list(name)?.ok_or_else(|| missing(name))
     }
 }
 
+fn missing(name: &str) -> Failure {
+    Failure::argument(&format!("{name} is missing"))
+}
+
 fn number(name: &str, value: &str) -> Result<usize, Failure> {
-    value.parse().map_err(|_| Failure::Usage(format!("{name}: {value} is not a whole number")))
+    value.parse().map_err(|e: std::num::ParseIntError| match e.kind() {
+        IntErrorKind::PosOverflow => Failure::argument(&format!("{name}: {value} is too large")),
+        _ => Failure::argument(&format!("{name}: {value} is not a whole number")),
+    })
 }

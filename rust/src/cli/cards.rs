@@ -1,208 +1,192 @@
-//! The cards in a directory: which are there, whether they are of one archive, and whether they agree.
-use std::fs;
+//! The cards of one archive in a directory: which nodes they are of, whether they agree, and the transcript in them.
 use std::path::{Path, PathBuf};
 
-use hmsr::{unpack_to_vec, Header, Refusal, Shape};
+use hmsr::Shape;
 
-use super::{files, listed, Failure};
-
-/// The bytes of the longest card: five numbers of three bytes at most, and 15 × 2^12 symbols of two.
-const MOST_CARD: usize = 15 + 2 * (15 << 12);
+use super::card_files::{card_name, card_path, numbers_of_cards, read_card, Card, Unreadable};
+use super::groups::{self, described, kind};
+use super::text::{joined, nodes_listed, shown};
+use super::Failure;
 
 /// The cards of one archive.
 pub struct Cards {
     pub directory: PathBuf,
     pub shape: Shape,
     pub length: usize,
-    /// Each node's symbols, where its card can be read.
-    symbols: Vec<Option<Vec<u16>>>,
-    /// The nodes whose card is there and cannot be read, and why.
-    unreadable: Vec<(usize, String)>,
-}
-
-/// Where a node's card stands.
-pub fn card_path(directory: &Path, node: usize) -> PathBuf {
-    directory.join(card_name(node))
-}
-
-fn card_name(node: usize) -> String {
-    format!("node-{node:02}.card")
-}
-
-/// The node numbers, rising, that files of the directory are named after.
-pub fn numbers_of_cards(directory: &Path) -> Result<Vec<usize>, Failure> {
-    let failed = |e| Failure::of_path("read the directory", directory, &e);
-    let mut numbers = Vec::new();
-    for entry in fs::read_dir(directory).map_err(failed)? {
-        let name = entry.map_err(failed)?.file_name();
-        numbers.extend((0..100).find(|&node| name == card_name(node).as_str()));
-    }
-    numbers.sort_unstable();
-    Ok(numbers)
-}
-
-/// A card's header and symbols, or why it cannot be read.
-pub fn read_card(path: &Path) -> Result<(Header, Vec<u16>), String> {
-    if !fs::metadata(path).map_err(|e| e.to_string())?.is_file() {
-        return Err("not a file".to_string());
-    }
-    let bytes = files::read(path, MOST_CARD).map_err(|e| e.to_string())?;
-    let unpacked = bytes.map_or(Err(Refusal::Malformed), |bytes| unpack_to_vec(&bytes));
-    unpacked.map_err(|refusal| format!("refusal {}, {refusal}", refusal.number()))
+    /// The readable cards of this archive.
+    cards: Vec<Card>,
+    /// The readable cards of others.
+    foreign: Vec<Card>,
+    /// For each node, the place among the cards of the one that is used.
+    used: Vec<Option<usize>>,
+    /// The numbers in the names of files that are no readable cards, and why.
+    unreadable: Vec<(usize, Unreadable)>,
 }
 
 impl Cards {
-    /// Reads the directory's cards. Cards of another archive, or under another node's name, are refused.
+    /// Reads the directory's cards. A card is of the node that its header names, whatever its file is named.
     pub fn load(directory: &Path) -> Result<Cards, Failure> {
-        let mut readable = Vec::new();
+        let mut cards = Vec::new();
         let mut unreadable = Vec::new();
         for named in numbers_of_cards(directory)? {
             match read_card(&card_path(directory, named)) {
-                Ok((header, symbols)) => readable.push((named, header, symbols)),
+                Ok((header, symbols)) => cards.push(Card { named, header, symbols }),
                 Err(why) => unreadable.push((named, why)),
             }
         }
-        let (shape, length) = common(&readable).ok_or_else(|| none_readable(directory, &unreadable))?;
-        let mut cards =
-            Cards { directory: directory.to_path_buf(), shape, length, symbols: vec![None; shape.nodes], unreadable };
-        for (named, header, symbols) in readable {
-            cards.take(named, header, symbols)?;
-        }
-        Ok(cards)
+        let Some(wanted) = groups::decided(directory, &cards)? else {
+            return Err(none_readable(directory, &unreadable));
+        };
+        let (cards, foreign): (Vec<Card>, Vec<Card>) = cards.into_iter().partition(|card| kind(card) == wanted);
+        let (shape, length) = wanted;
+        let used = (0..shape.nodes).map(|node| used(&cards, node)).collect();
+        Ok(Cards { directory: directory.to_path_buf(), shape, length, cards, foreign, used, unreadable })
     }
 
-    /// Takes a card that is of this archive and under its own name.
-    fn take(&mut self, named: usize, header: Header, symbols: Vec<u16>) -> Result<(), Failure> {
-        let path = card_path(&self.directory, named);
-        if (header.shape, header.length) != (self.shape, self.length) {
-            return Err(Failure::Work(format!(
-                "{} is of another archive ({}) than others here ({}): keep the cards of one archive in a directory",
-                path.display(),
-                described(header.shape, header.length),
-                described(self.shape, self.length)
-            )));
-        }
-        if header.node != named {
-            return Err(Failure::Work(format!(
-                "{} is the card of node {}: give it that node's name, or move it away",
-                path.display(),
-                header.node
-            )));
-        }
-        self.symbols[named] = Some(symbols);
-        Ok(())
+    /// Cards of another archive stop every command: their nodes may be missing, and then they have those nodes' names.
+    pub fn refuse_foreign(&self) -> Result<(), Failure> {
+        let Some(first) = self.foreign.first().map(kind) else {
+            return Ok(());
+        };
+        let files = self.foreign.iter().map(|card| shown(&card_path(&self.directory, card.named)));
+        let is = if self.foreign.len() == 1 { "is" } else { "are" };
+        Err(Failure::Repairable(format!(
+            "{} {is} of another archive ({}) than most here ({}): keep the cards of one archive in a directory",
+            joined(files),
+            described(first),
+            self.described()
+        )))
     }
 
-    /// The nodes whose cards can be read, rising.
+    /// The nodes whose cards can be used, rising.
     pub fn present(&self) -> Vec<usize> {
-        (0..self.shape.nodes).filter(|&node| self.symbols[node].is_some()).collect()
+        (0..self.shape.nodes).filter(|&node| self.used[node].is_some()).collect()
     }
 
-    /// The nodes whose cards are missing or cannot be read, rising.
+    /// The nodes whose cards are missing, cannot be read or are in doubt, rising.
     pub fn absent(&self) -> Vec<usize> {
-        (0..self.shape.nodes).filter(|&node| self.symbols[node].is_none()).collect()
+        (0..self.shape.nodes).filter(|&node| self.used[node].is_none()).collect()
+    }
+
+    /// Why the file with a node's name is no readable card, where it is there and is none.
+    pub fn unreadable(&self, node: usize) -> Option<&Unreadable> {
+        self.unreadable.iter().find(|(named, _)| *named == node).map(|(_, why)| why)
+    }
+
+    /// The node of the readable card that has a node's name.
+    pub fn node_of_name(&self, named: usize) -> Option<usize> {
+        self.cards.iter().find(|card| card.named == named).map(|card| card.header.node)
+    }
+
+    /// The numbers in the names of all cards of a node.
+    pub fn names_of(&self, node: usize) -> Vec<usize> {
+        self.cards.iter().filter(|card| card.header.node == node).map(|card| card.named).collect()
+    }
+
+    /// Whether a name is the name of some file that was there.
+    pub fn is_taken(&self, named: usize) -> bool {
+        self.node_of_name(named).is_some() || self.unreadable(named).is_some()
+    }
+
+    /// The files of a node's cards.
+    pub fn files_of(&self, nodes: &[usize]) -> String {
+        let names = nodes.iter().flat_map(|&node| self.names_of(node));
+        joined(names.map(|named| shown(&card_path(&self.directory, named))))
     }
 
     /// The absent nodes in words.
     pub fn absent_described(&self) -> String {
-        let why = |node: &usize| match self.unreadable.iter().find(|(unreadable, _)| unreadable == node) {
-            Some((_, why)) => format!("node {node} cannot be read ({why})"),
-            None => format!("node {node} is missing"),
+        joined(self.absent().into_iter().map(|node| self.why_absent(node)))
+    }
+
+    fn why_absent(&self, node: usize) -> String {
+        match (self.doubt(node), self.unreadable(node)) {
+            (Some(doubt), _) => doubt,
+            (None, Some(why)) => format!("node {node} cannot be read ({why})"),
+            (None, None) => format!("node {node} is missing"),
+        }
+    }
+
+    /// Where several cards of a node differ, which they are.
+    pub fn doubt(&self, node: usize) -> Option<String> {
+        let names = self.names_of(node);
+        if self.used[node].is_some() || names.is_empty() {
+            return None;
+        }
+        let names: Vec<String> = names.into_iter().map(card_name).collect();
+        Some(format!("node {node} cannot be told ({} are its cards and differ)", names.join(" and ")))
+    }
+
+    /// The cards that are not under their own names, a line each.
+    pub fn notes(&self) -> String {
+        let misnamed = self.cards.iter().filter(|card| card.named != card.header.node);
+        let note = |card: &Card| {
+            let (name, node) = (card_name(card.named), card.header.node);
+            match self.used[node].map(|place| self.cards[place].named) {
+                Some(used) if used == card.named => {
+                    format!("note: {name} is the card of node {node}, and read as such\n")
+                }
+                Some(used) => format!("note: {name} is a copy of {}\n", card_name(used)),
+                None => String::new(),
+            }
         };
-        self.absent().iter().map(why).collect::<Vec<_>>().join(", ")
+        misnamed.map(note).collect()
+    }
+
+    /// A node's symbols, where its card can be used.
+    pub fn symbols(&self, node: usize) -> Option<&[u16]> {
+        self.used[node].map(|place| &*self.cards[place].symbols)
     }
 
     /// The symbols of nodes, one behind the other; those of an absent node are 0.
     pub fn symbols_of(&self, nodes: &[usize]) -> Vec<u16> {
-        let size = self.shape.node_symbols().unwrap_or(0);
-        let one = |&node: &usize| self.symbols[node].clone().unwrap_or_else(|| vec![0; size]);
-        nodes.iter().flat_map(one).collect()
+        let zeros = vec![0; self.shape.node_symbols().unwrap_or(0)];
+        nodes.iter().flat_map(|&node| self.symbols(node).unwrap_or(&zeros).iter().copied()).collect()
     }
 
-    /// Refuses where fewer cards can be read than are needed.
-    pub fn need(&self, count: usize, advice: &str) -> Result<(), Failure> {
+    /// Refuses where fewer cards can be used than are needed.
+    pub fn need(&self, count: usize, kind: fn(String) -> Failure, advice: &str) -> Result<(), Failure> {
         let present = self.present();
         if count <= present.len() {
             return Ok(());
         }
-        Err(Failure::Work(format!(
-            "{} readable cards (nodes {}) are too few: {count} are needed; {advice}",
-            present.len(),
-            listed(&present)
-        )))
-    }
-
-    /// Refuses cards that are not of one written archive, and names the one that is to blame where that can be told.
-    pub fn agree(&self) -> Result<(), Failure> {
-        let present = self.present();
-        if self.same_codeword(&present)? {
-            return Ok(());
-        }
-        let mut odd = Vec::new();
-        for &node in &present {
-            let others: Vec<usize> = present.iter().copied().filter(|&other| other != node).collect();
-            if self.same_codeword(&others)? {
-                odd.push(node);
-            }
-        }
-        Err(Failure::Work(match odd[..] {
-            [node] => format!(
-                "{} does not agree with the others: it is damaged or of another archive; move it away, then repair",
-                card_path(&self.directory, node).display()
-            ),
-            _ => format!(
-                "the cards of nodes {} do not agree, and it cannot be told which is wrong: move the damaged ones, or \
-                 those of another archive, away",
-                listed(&present)
-            ),
-        }))
-    }
-
-    /// Whether the nodes hold their symbols of one codeword: the first k of them restore the rest. Any k do.
-    fn same_codeword(&self, nodes: &[usize]) -> Result<bool, Failure> {
-        let Some(first) = nodes.get(..self.shape.data) else {
-            return Ok(true);
+        let doubts: String = (0..self.shape.nodes).filter_map(|node| self.doubt(node)).map(|d| d + "; ").collect();
+        let cards = match &present[..] {
+            [] => "no card can be used".to_string(),
+            [node] => format!("1 readable card (node {node}) is too few"),
+            _ => format!("{} readable cards ({}) are too few", present.len(), nodes_listed(&present)),
         };
-        let refused = |refusal| Failure::refused("the nodes cannot be restored", refusal, "check the cards");
-        let size = self.shape.node_symbols().map_err(refused)?;
-        let all = self.shape.restore_nodes(first, &self.symbols_of(first)).map_err(refused)?;
-        Ok(nodes.iter().all(|&node| self.symbols[node].as_deref() == Some(&all[node * size..][..size])))
+        let needed = if count == 1 { "1 is needed".to_string() } else { format!("{count} are needed") };
+        Err(kind(format!("{cards}: {needed}; {doubts}{advice}")))
     }
 
-    /// The transcript, from the first k cards, and which they are.
-    pub fn transcript(&self) -> Result<(Vec<usize>, Vec<u8>), Failure> {
-        let mut used = self.present();
-        used.truncate(self.shape.data);
-        let opened = self.shape.open_to_vec(&used, &self.symbols_of(&used), self.length);
-        match opened {
-            Ok(transcript) => Ok((used, transcript)),
-            Err(refusal) => {
-                Err(Failure::refused("the cards do not open", refusal, "some are damaged, or their length is"))
-            }
-        }
+    /// The transcript from k nodes.
+    pub fn transcript(&self, nodes: &[usize]) -> Result<Vec<u8>, Failure> {
+        self.shape.open_to_vec(nodes, &self.symbols_of(nodes), self.length).map_err(|refusal| {
+            let advice = "some are damaged, or their length is";
+            Failure::refused(Failure::Lost, "the cards do not open", refusal, advice)
+        })
     }
 
     /// The archive in words.
     pub fn described(&self) -> String {
-        described(self.shape, self.length)
+        described((self.shape, self.length))
     }
 }
 
-fn described(shape: Shape, length: usize) -> String {
-    let Shape { nodes, data, layers } = shape;
-    format!("{nodes} nodes, any {data} of them, {layers} layers, {length} bytes")
+/// The place of a node's card, where no other card of it differs: that under its own name, or else the first.
+fn used(cards: &[Card], node: usize) -> Option<usize> {
+    if !groups::same(cards.iter().filter(|card| card.header.node == node)) {
+        return None;
+    }
+    let of_node = |card: &Card| card.header.node == node;
+    let own = cards.iter().position(|card| of_node(card) && card.named == node);
+    own.or_else(|| cards.iter().position(of_node))
 }
 
-/// The shape and length that most cards have; of those that equally many have, the one of the lowest node.
-fn common(readable: &[(usize, Header, Vec<u16>)]) -> Option<(Shape, usize)> {
-    let kinds: Vec<(Shape, usize)> = readable.iter().map(|(_, header, _)| (header.shape, header.length)).collect();
-    let count = |kind: &(Shape, usize)| kinds.iter().filter(|other| *other == kind).count();
-    kinds.iter().rev().max_by_key(|kind| count(kind)).copied()
-}
-
-fn none_readable(directory: &Path, unreadable: &[(usize, String)]) -> Failure {
-    let directory = directory.display();
-    Failure::Work(match unreadable.first() {
+fn none_readable(directory: &Path, unreadable: &[(usize, Unreadable)]) -> Failure {
+    let directory = shown(directory);
+    Failure::Lost(match unreadable.first() {
         Some((node, why)) => format!("no card in {directory} can be read; {}: {why}", card_name(*node)),
         None => format!("{directory} holds no cards (node-00.card and so on): name the directory that has them"),
     })

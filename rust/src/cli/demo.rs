@@ -5,8 +5,12 @@ use std::io;
 use std::path::{Path, PathBuf};
 use std::process;
 
-use super::cards::{card_path, Cards};
-use super::{listed, open, repair, traffic, write, Failure};
+use super::args::Args;
+use super::card_files::card_path;
+use super::cards::Cards;
+use super::repair::Wanted;
+use super::text::{listed, shown};
+use super::{open, repair, traffic, write, Failure, Report};
 
 const NODES: usize = 12;
 const DATA: usize = 8;
@@ -15,7 +19,7 @@ const LOST: [usize; 3] = [1, 4, 10];
 const OPENED: [usize; DATA] = [1, 3, 4, 6, 7, 9, 10, 11];
 const LINES: usize = 1500;
 
-pub fn run() -> Result<String, Failure> {
+pub fn run(_: &Args) -> Result<Report, Failure> {
     let place = Temporary::make()?;
     let (transcript, drives) = (place.0.join("transcript.txt"), place.0.join("drives"));
     let text = sample();
@@ -27,16 +31,16 @@ pub fn run() -> Result<String, Failure> {
     report += &write::write(&transcript, &drives, NODES, DATA, None)?;
     report += &format!("\nDrives {} are lost.\n\n$ hmsr repair drives\n", listed(&LOST));
     let written = lose(&drives)?;
-    report += &repair::repair(&drives, None, None)?;
+    report += &repair::repair(&drives, Wanted::default())?;
     report += &format!("\nThe transcript from drives {} alone.\n\n$ hmsr open others opened.txt\n", listed(&OPENED));
     report += &opened(&place.0, &drives)?;
     report += &compared(&place.0, &drives, &text, &written)?;
     let shape = Cards::load(&drives)?.shape;
-    report +=
-        "\nBytes sent, against repairs that read whole drives (through one new drive that passes the others on, or\n\
-               each new drive by itself), at two bytes a symbol:\n\n";
+    report += "\nSymbols and bytes sent, against repairs that read whole drives (through one new drive that passes the others\n\
+               on, or each new drive by itself):\n\n";
     report += &traffic::table(shape);
-    Ok(report.replace(&format!("{}/", place.0.display()), ""))
+    report += &format!("\n{}\n", traffic::ENCODING);
+    Ok(report.replace(&format!("{}/", shown(&place.0)), "").into())
 }
 
 /// A made-up hearing.
@@ -71,11 +75,11 @@ fn opened(place: &Path, drives: &Path) -> Result<String, Failure> {
 fn compared(place: &Path, drives: &Path, text: &str, written: &[Vec<u8>]) -> Result<String, Failure> {
     let failed = |e| Failure::of_path("read", place, &e);
     if fs::read(place.join("opened.txt")).map_err(failed)? != text.as_bytes() {
-        return Err(Failure::Work("the transcript that was opened is another one".to_string()));
+        return Err(Failure::Lost("the transcript that was opened is another one".to_string()));
     }
     for (&node, card) in LOST.iter().zip(written) {
         if fs::read(card_path(drives, node)).map_err(failed)? != *card {
-            return Err(Failure::Work(format!("the new card of node {node} is another one")));
+            return Err(Failure::Lost(format!("the new card of node {node} is another one")));
         }
     }
     Ok("\nThe transcript and the three cards are the same, byte for byte.\n".to_string())

@@ -1,26 +1,55 @@
-//! Why a command turned back.
+//! Why a command turned back, and the exit status that says so.
 use std::io;
 use std::path::Path;
 
 use hmsr::Refusal;
 
-/// One line for the user.
+use super::text::shown;
+
+/// One line for the user. The kinds are those that a script can tell apart.
 #[derive(Debug)]
 pub enum Failure {
-    /// The arguments were not understood.
+    /// The transcript is there, but cards are missing or wrong: something is to be done.
+    Repairable(String),
+    /// The transcript cannot be had from these cards, or it cannot be told which cards are right.
+    Lost(String),
+    /// The arguments were not understood, or ask for what cannot be.
     Usage(String),
-    /// The work could not be done; nothing was changed.
-    Work(String),
+    /// A file or directory could not be read or written.
+    Io(String),
 }
 
 impl Failure {
+    /// The arguments were not understood.
+    pub fn argument(complaint: &str) -> Failure {
+        Failure::Usage(format!("{complaint} (see hmsr --help)"))
+    }
+
     /// A file or directory could not be used.
     pub fn of_path(doing: &str, path: &Path, cause: &io::Error) -> Failure {
-        Failure::Work(format!("cannot {doing} {}: {cause}", path.display()))
+        Failure::Io(format!("cannot {doing} {}: {cause}", shown(path)))
     }
 
     /// The library refused, with the cause's number and what to do about it.
-    pub fn refused(what: &str, refusal: Refusal, advice: &str) -> Failure {
-        Failure::Work(format!("{what}: refusal {} ({refusal}); {advice}", refusal.number()))
+    pub fn refused(kind: fn(String) -> Failure, what: &str, refusal: Refusal, advice: &str) -> Failure {
+        kind(format!("{what}: refusal {} ({refusal}); {advice}", refusal.number()))
+    }
+
+    pub fn message(&self) -> &str {
+        match self {
+            Failure::Repairable(message) | Failure::Lost(message) | Failure::Usage(message) | Failure::Io(message) => {
+                message
+            }
+        }
+    }
+
+    /// The exit status; 0 is a command that did its work.
+    pub fn status(&self) -> u8 {
+        match self {
+            Failure::Repairable(_) => 1,
+            Failure::Lost(_) => 2,
+            Failure::Usage(_) => 3,
+            Failure::Io(_) => 4,
+        }
     }
 }

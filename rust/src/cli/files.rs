@@ -1,84 +1,96 @@
 //! Reading files of bounded size, and placing new files whole or not at all.
-use std::ffi::OsString;
-use std::fs::{self, File, OpenOptions};
+use std::fs::{self, File, OpenOptions, Permissions};
 use std::io::{self, Read, Write};
+use std::os::unix::fs::OpenOptionsExt;
 use std::path::{Path, PathBuf};
-use std::process;
 
-/// How many names for a temporary file are tried before giving up.
-const TRIES: usize = 100;
+use super::temporary::Temporary;
+use super::Failure;
 
-/// The bytes of a file, or `None` where it has more than the most.
+/// The flag with which opening a FIFO does not wait for its other end.
+#[cfg(any(target_os = "linux", target_os = "android"))]
+const O_NONBLOCK: i32 = 0o4000;
+#[cfg(not(any(target_os = "linux", target_os = "android")))]
+const O_NONBLOCK: i32 = 0x4;
+
+/// The bytes of a file, or `None` where it has more than the most. What is no file, as a directory, a FIFO or a device,
+/// is not read.
 pub fn read(path: &Path, most: usize) -> io::Result<Option<Vec<u8>>> {
+    let not_a_file = || io::Error::new(io::ErrorKind::InvalidInput, "not a file");
+    // Opening a device may already do something, so it is looked at before; and after, for it may have changed.
+    if !fs::metadata(path)?.is_file() {
+        return Err(not_a_file());
+    }
+    let file = open_to_read(path)?;
+    if !file.metadata()?.is_file() {
+        return Err(not_a_file());
+    }
+    read_bounded(file, most)
+}
+
+/// The bytes of a source, or `None` where it has more than the most.
+pub fn read_bounded(source: impl Read, most: usize) -> io::Result<Option<Vec<u8>>> {
     let mut bytes = Vec::new();
-    File::open(path)?.take(most as u64 + 1).read_to_end(&mut bytes)?;
+    source.take(most as u64 + 1).read_to_end(&mut bytes)?;
     Ok(Some(bytes).filter(|bytes| bytes.len() <= most))
+}
+
+/// Opens without waiting.
+pub fn open_to_read(path: &Path) -> io::Result<File> {
+    OpenOptions::new().read(true).custom_flags(O_NONBLOCK).open(path)
+}
+
+/// A new file with these bytes, on the disk.
+pub fn write_new(path: &Path, bytes: &[u8]) -> io::Result<()> {
+    let mut file = OpenOptions::new().write(true).create_new(true).open(path)?;
+    file.write_all(bytes)?;
+    file.sync_all()
 }
 
 /// A file that stands complete under a temporary name in the directory of its target, and goes away unless it is placed.
 pub struct Pending {
-    temporary: PathBuf,
+    temporary: Temporary,
     target: PathBuf,
-    placed: bool,
 }
 
 impl Pending {
-    /// Writes the bytes, to the disk, under a temporary name.
-    pub fn write(target: &Path, bytes: &[u8]) -> io::Result<Pending> {
-        let (temporary, mut file) = create_beside(target)?;
-        let pending = Pending { temporary, target: target.to_path_buf(), placed: false };
-        file.write_all(bytes)?;
-        file.sync_all()?;
-        Ok(pending)
+    /// Writes the bytes, to the disk, under a temporary name; with the permissions that are given.
+    pub fn write(target: &Path, bytes: &[u8], permissions: Option<Permissions>) -> io::Result<Pending> {
+        let mut temporary = Temporary::file(parent(target))?;
+        temporary.held.write_all(bytes)?;
+        if let Some(permissions) = permissions {
+            temporary.held.set_permissions(permissions)?;
+        }
+        temporary.held.sync_all()?;
+        Ok(Pending { temporary, target: target.to_path_buf() })
     }
 
     /// Gives the file its name, which no file may have, whoever makes it meanwhile. Where the file system has no links,
     /// that is looked at just before.
     pub fn place_new(self) -> io::Result<()> {
-        match fs::hard_link(&self.temporary, &self.target) {
+        match fs::hard_link(&self.temporary.path, &self.target) {
             Err(_) if fs::symlink_metadata(&self.target).is_err() => self.place(),
             linked => linked,
         }
     }
 
     /// Gives the file its name, at once, in the place of what has it.
-    pub fn place(mut self) -> io::Result<()> {
-        fs::rename(&self.temporary, &self.target)?;
-        self.placed = true;
-        Ok(())
+    pub fn place(self) -> io::Result<()> {
+        self.temporary.rename(&self.target)
     }
 }
 
-impl Drop for Pending {
-    fn drop(&mut self) {
-        if !self.placed {
-            // Nothing is left to do if this fails too: the name says that the file is temporary.
-            let _ = fs::remove_file(&self.temporary);
+/// Sends a directory's names to the disk. A directory that may not be read, and some file systems, cannot be told to;
+/// the files are there all the same.
+pub fn sync_directory(directory: &Path) -> Result<(), Failure> {
+    let Ok(opened) = File::open(directory) else {
+        return Ok(());
+    };
+    match opened.sync_all() {
+        Err(e) if !matches!(e.kind(), io::ErrorKind::InvalidInput | io::ErrorKind::Unsupported) => {
+            Err(Failure::of_path("send to the disk what is in", directory, &e))
         }
-    }
-}
-
-/// A new file with a name of its own in the target's directory.
-fn create_beside(target: &Path) -> io::Result<(PathBuf, File)> {
-    let name = target.file_name().ok_or(io::ErrorKind::InvalidInput)?;
-    for attempt in 0..TRIES {
-        let mut hidden = OsString::from(".");
-        hidden.push(name);
-        hidden.push(format!(".{}-{attempt}.tmp", process::id()));
-        let temporary = target.with_file_name(hidden);
-        match OpenOptions::new().write(true).create_new(true).open(&temporary) {
-            Ok(file) => return Ok((temporary, file)),
-            Err(e) if e.kind() == io::ErrorKind::AlreadyExists => {}
-            Err(e) => return Err(e),
-        }
-    }
-    Err(io::ErrorKind::AlreadyExists.into())
-}
-
-/// Sends a directory's names to the disk. Some file systems cannot; the files are there all the same.
-pub fn sync_directory(directory: &Path) {
-    if let Ok(opened) = File::open(directory) {
-        let _ = opened.sync_all();
+        _ => Ok(()),
     }
 }
 

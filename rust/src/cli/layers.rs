@@ -1,7 +1,8 @@
 //! Which number of layers an archive gets where the user names none.
 use hmsr::Shape;
 
-use super::{listed, Failure};
+use super::text::{counted, listed};
+use super::Failure;
 
 /// "L, the number of layers, is 1 to 15".
 pub const MOST_LAYERS: usize = 15;
@@ -30,7 +31,8 @@ pub fn named(nodes: usize, data: usize, layers: usize, length: usize) -> Result<
     let Some(fewest) = fewest else {
         return Err(too_long(nodes, data));
     };
-    Err(Failure::Work(format!("{length} bytes do not fit into {layers} layers: use --layers {fewest} or more")))
+    let layers = counted(layers, "layer");
+    Err(Failure::Usage(format!("{length} bytes do not fit into {layers}: use --layers {fewest} or more")))
 }
 
 /// The most bytes that any archive of these nodes holds.
@@ -48,9 +50,10 @@ pub fn described(shape: Shape) -> String {
     let all = shape.nodes - shape.data - 1;
     let sizes = repairable(shape);
     if sizes.len() == all {
-        return format!("any loss of up to {all} nodes is repaired in one go");
+        return format!("any loss of up to {} is repaired in one go", counted(all, "node"));
     }
-    format!("a loss of {} nodes is repaired in one go, of up to {all} in several", listed(&sizes))
+    let nodes = if sizes == [1] { "node" } else { "nodes" };
+    format!("a loss of {} {nodes} is repaired in one go, of up to {all} in several", listed(&sizes))
 }
 
 fn holds(shape: Shape, length: usize) -> bool {
@@ -60,6 +63,7 @@ fn holds(shape: Shape, length: usize) -> bool {
 fn judged(nodes: usize, data: usize, layers: usize) -> Result<Shape, Failure> {
     Shape::new(nodes, data, layers).map_err(|refusal| {
         Failure::refused(
+            Failure::Usage,
             "no archive has this shape",
             refusal,
             "choose --nodes, --data and --layers within these ranges",
@@ -69,7 +73,7 @@ fn judged(nodes: usize, data: usize, layers: usize) -> Result<Shape, Failure> {
 
 fn too_long(nodes: usize, data: usize) -> Failure {
     match most_bytes(nodes, data) {
-        Ok(most) => Failure::Work(format!(
+        Ok(most) => Failure::Usage(format!(
             "the transcript is too long: an archive with --nodes {nodes} --data {data} holds at most {most} bytes; \
              split it, or use more data nodes"
         )),

@@ -1,67 +1,119 @@
 //! The commands of the program. Each gives a report to print, or why it turned back.
+mod agreement;
 mod args;
+mod card_files;
 mod cards;
 mod check;
 mod demo;
 mod failure;
 mod files;
+mod groups;
 mod info;
+mod json;
 mod layers;
+mod obstacles;
 mod open;
 mod plan;
 mod repair;
+#[allow(unsafe_code)]
+mod signals;
+mod temporary;
+mod text;
 mod traffic;
+mod usage;
 mod write;
 
 use std::ffi::OsString;
 
 use args::Args;
 pub use failure::Failure;
+pub use signals::ignore_file_size_limit;
+pub use text::one_line;
 
-pub const USAGE: &str = "\
-A transcript spread over drives, any k of which give it back, and lost ones refilled.
+/// What a command has to say.
+#[derive(Default)]
+pub struct Report {
+    /// For standard output.
+    pub text: String,
+    /// For standard error, where standard output has the transcript.
+    pub aside: String,
+    /// Why it turned back all the same.
+    pub failure: Option<Failure>,
+}
 
-  hmsr write FILE DIR --nodes N --data K [--layers L]
-                     write FILE into N cards, DIR/node-00.card and so on, any K of which give it back
-                     (N is 3 to 12, K is 1 to N - 2; without --layers the best number from 1 to 15 is chosen)
-  hmsr check DIR  whether every card is there and all agree
-  hmsr open DIR OUT
-                     put the transcript into the new file OUT, from any K cards
-  hmsr repair DIR [--dead LIST] [--helpers LIST]
-                     make missing and unreadable cards anew, all of them or those in LIST, with the help of
-                     K + 1 others; LIST is node numbers with commas, as 0,3,7
-  hmsr plan --nodes N --data K --layers L --dead LIST --helpers LIST
-                     who sends how many symbols to whom in a repair
-  hmsr info CARD  what a card says of itself
-  hmsr demo       write, lose, repair and open an archive in a temporary directory
-  hmsr --help     this text
-
-Exit status: 0, or 1 and one line on standard error; nothing is left half written.
-";
-
-/// Runs the command that the arguments name.
-pub fn run(given: Vec<OsString>) -> Result<String, Failure> {
-    let Some((command, rest)) = given.split_first() else {
-        return Err(Failure::Usage("which command?".to_string()));
-    };
-    if given.iter().any(|word| word == "--help" || word == "-h") {
-        return Ok(USAGE.to_string());
-    }
-    let arguments = |words: &[&'static str], options: &[&str]| Args::parse(rest, words, options);
-    match command.to_str() {
-        Some("write") => write::run(&arguments(&["FILE", "DIR"], &["--nodes", "--data", "--layers"])?),
-        Some("check") => check::run(&arguments(&["DIR"], &[])?),
-        Some("open") => open::run(&arguments(&["DIR", "OUT"], &[])?),
-        Some("repair") => repair::run(&arguments(&["DIR"], &["--dead", "--helpers"])?),
-        Some("plan") => plan::run(&arguments(&[], &["--nodes", "--data", "--layers", "--dead", "--helpers"])?),
-        Some("info") => info::run(&arguments(&["CARD"], &[])?),
-        Some("demo") => arguments(&[], &[]).and_then(|_| demo::run()),
-        Some("help") => Ok(USAGE.to_string()),
-        _ => Err(Failure::Usage(format!("there is no command {}", command.to_string_lossy()))),
+impl From<String> for Report {
+    fn from(text: String) -> Report {
+        Report { text, ..Report::default() }
     }
 }
 
-/// Node numbers as text.
-fn listed(nodes: &[usize]) -> String {
-    nodes.iter().map(usize::to_string).collect::<Vec<_>>().join(", ")
+/// A command with the words and options that it takes.
+struct Command {
+    name: &'static str,
+    words: &'static [&'static str],
+    /// Options with a value.
+    options: &'static [&'static str],
+    flags: &'static [&'static str],
+    run: fn(&Args) -> Result<Report, Failure>,
+}
+
+const COMMANDS: [Command; 7] = [
+    Command {
+        name: "write",
+        words: &["FILE", "DIR"],
+        options: &["--nodes", "--data", "--layers"],
+        flags: &["--quiet"],
+        run: write::run,
+    },
+    Command { name: "check", words: &["DIR"], options: &[], flags: &["--json", "--quiet"], run: check::run },
+    Command { name: "open", words: &["DIR", "OUT"], options: &[], flags: &["--quiet"], run: open::run },
+    Command {
+        name: "repair",
+        words: &["DIR"],
+        options: &["--dead", "--helpers"],
+        flags: &["--dry-run", "--quiet"],
+        run: repair::run,
+    },
+    Command {
+        name: "plan",
+        words: &[],
+        options: &["--nodes", "--data", "--layers", "--dead", "--helpers"],
+        flags: &["--json"],
+        run: plan::run,
+    },
+    Command { name: "info", words: &["CARD"], options: &[], flags: &["--json"], run: info::run },
+    Command { name: "demo", words: &[], options: &[], flags: &[], run: demo::run },
+];
+
+/// Runs the command that the arguments name.
+pub fn run(given: Vec<OsString>) -> Result<Report, Failure> {
+    let Some((first, rest)) = given.split_first() else {
+        return Err(Failure::argument("which command?"));
+    };
+    let name = first.to_string_lossy();
+    match &*name {
+        "--version" => return Ok(format!("hmsr {}\n", env!("CARGO_PKG_VERSION")).into()),
+        "--help" | "-h" => return Ok(usage::all().into()),
+        "help" => return help(rest),
+        _ => {}
+    }
+    let Some(command) = COMMANDS.iter().find(|command| command.name == name) else {
+        return Err(Failure::argument(&format!("there is no command {name}")));
+    };
+    if args::asks_for_help(rest) {
+        return Ok(usage::of(command.name).into());
+    }
+    let args = Args::parse(rest, command)?;
+    let report = (command.run)(&args)?;
+    Ok(if args.has("--quiet") { Report { failure: report.failure, ..Report::default() } } else { report })
+}
+
+/// `hmsr help`, or `hmsr help write`.
+fn help(rest: &[OsString]) -> Result<Report, Failure> {
+    let named = |name: &OsString| COMMANDS.iter().find(|command| *name == *command.name);
+    match rest {
+        [] => Ok(usage::all().into()),
+        [name] if named(name).is_some() => Ok(usage::of(&name.to_string_lossy()).into()),
+        [name, ..] => Err(Failure::argument(&format!("there is no command {}", name.to_string_lossy()))),
+    }
 }

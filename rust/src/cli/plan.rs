@@ -2,7 +2,7 @@
 use hmsr::{plan_input, plan_text, Refusal, Shape};
 
 use super::args::Args;
-use super::Failure;
+use super::{json, Failure, Report};
 
 /// A message of a plan.
 pub struct Message {
@@ -11,20 +11,48 @@ pub struct Message {
     pub symbols: usize,
 }
 
-pub fn run(args: &Args) -> Result<String, Failure> {
+pub fn run(args: &Args) -> Result<Report, Failure> {
     let shape = Shape {
         nodes: args.required_number("--nodes")?,
         data: args.required_number("--data")?,
         layers: args.required_number("--layers")?,
     };
-    text(shape, &args.required_list("--dead")?, &args.required_list("--helpers")?)
+    let (dead, helpers) = (args.required_list("--dead")?, args.required_list("--helpers")?);
+    Ok(match args.has("--json") {
+        true => for_programs(shape, &dead, &helpers)?,
+        false => text(shape, &dead, &helpers)?,
+    }
+    .into())
+}
+
+/// The plan for programs: the repair, its messages in the plan's order, and the symbols of all.
+fn for_programs(shape: Shape, dead: &[usize], helpers: &[usize]) -> Result<String, Failure> {
+    let messages = messages(shape, dead, helpers)?;
+    let total: usize = messages.iter().map(|message| message.symbols).sum();
+    let one = |message: &Message| {
+        json::object([
+            ("from", message.sender.to_string()),
+            ("to", message.receiver.to_string()),
+            ("symbols", message.symbols.to_string()),
+        ])
+    };
+    let plan = json::object([
+        ("nodes", shape.nodes.to_string()),
+        ("data", shape.data.to_string()),
+        ("layers", shape.layers.to_string()),
+        ("dead", json::numbers(dead)),
+        ("helpers", json::numbers(helpers)),
+        ("messages", json::array(messages.iter().map(one))),
+        ("symbols", total.to_string()),
+    ]);
+    Ok(plan + "\n")
 }
 
 /// The plan's text. A refused plan is one line with one number.
 pub fn text(shape: Shape, dead: &[usize], helpers: &[usize]) -> Result<String, Failure> {
     let text = String::from_utf8_lossy(&plan_text(&plan_input(shape, dead, helpers))).into_owned();
     match text.trim_end().parse().ok().and_then(Refusal::from_number) {
-        Some(refusal) => Err(Failure::refused("there is no such repair", refusal, advice(refusal))),
+        Some(refusal) => Err(Failure::refused(Failure::Usage, "there is no such repair", refusal, advice(refusal))),
         None => Ok(text),
     }
 }

@@ -1,43 +1,67 @@
 //! `hmsr repair`: missing and unreadable cards made anew, with the help of k + 1 others.
 use std::fs;
-use std::io;
-use std::path::{Path, PathBuf};
+use std::path::Path;
 
 use hmsr::Shape;
 
+use super::agreement::Agreement;
 use super::args::Args;
-use super::cards::{card_path, Cards};
+use super::card_files::card_path;
+use super::cards::Cards;
 use super::files::{self, Pending};
-use super::traffic::{Traffic, SYMBOL_BYTES};
-use super::{listed, plan, Failure};
+use super::obstacles::obstacle;
+use super::text::{joined, nodes_listed, shown};
+use super::traffic::{packed_bytes, Traffic, ENCODING};
+use super::{plan, temporary, Failure, Report};
 
-pub fn run(args: &Args) -> Result<String, Failure> {
-    repair(args.path(0), args.list("--dead")?, args.list("--helpers")?)
+/// What the user asks for.
+#[derive(Default)]
+pub struct Wanted {
+    /// The nodes to be repaired; every absent one where none are named.
+    dead: Option<Vec<usize>>,
+    helpers: Option<Vec<usize>>,
+    /// Nothing is to be changed.
+    dry_run: bool,
 }
 
-/// Repairs the dead nodes that are named, or every absent one.
-pub fn repair(
-    directory: &Path, named_dead: Option<Vec<usize>>, named_helpers: Option<Vec<usize>>,
-) -> Result<String, Failure> {
+pub fn run(args: &Args) -> Result<Report, Failure> {
+    let (dead, helpers) = (args.list("--dead")?, args.list("--helpers")?);
+    repair(args.path(0), Wanted { dead, helpers, dry_run: args.has("--dry-run") }).map(Report::from)
+}
+
+/// Repairs the dead nodes that are wanted.
+pub fn repair(directory: &Path, wanted: Wanted) -> Result<String, Failure> {
     let cards = Cards::load(directory)?;
-    cards.need(cards.shape.data + 1, too_few_advice(&cards))?;
-    cards.agree()?;
-    let dead = chosen_dead(&cards, named_dead)?;
-    let helpers = chosen_helpers(&cards, named_helpers)?;
-    if dead.is_empty() {
-        return Ok(format!("nothing to repair: all cards are there and agree ({})\n", cards.described()));
+    if !wanted.dry_run {
+        temporary::clean(directory);
     }
+    agree(&cards)?;
+    let dead = chosen_dead(&cards, wanted.dead)?;
+    let helpers = chosen_helpers(&cards, wanted.helpers)?;
+    if dead.is_empty() {
+        let (archive, notes) = (cards.described(), cards.notes());
+        return Ok(format!("nothing to repair: all cards are there and agree ({archive})\n{notes}"));
+    }
+    dead.iter().try_for_each(|&node| obstacle(&cards, node))?;
     let (nodes, report) = repaired(&cards, &dead, &helpers)?;
-    put_cards(&cards, &dead, &nodes)?;
-    Ok(report + &format!("made {}\n", names(&cards, &dead)))
+    if !wanted.dry_run {
+        put_cards(&cards, &dead, &nodes)?;
+    }
+    let made = if wanted.dry_run { "not made, as this is a dry run:" } else { "made" };
+    let names = joined(dead.iter().map(|&node| shown(&card_path(directory, node))));
+    Ok(format!("{report}{made} {names}\n{}", cards.notes()))
 }
 
-/// What can be done with fewer cards than a repair needs.
-fn too_few_advice(cards: &Cards) -> &'static str {
-    if cards.present().len() < cards.shape.data {
-        return "find more of them";
-    }
-    "they still open: open the transcript, and write it anew into another directory"
+/// Refuses cards that are too few or do not all agree, with what can be done.
+fn agree(cards: &Cards) -> Result<(), Failure> {
+    let data = cards.shape.data;
+    cards.need(data, Failure::Lost, "find more of them")?;
+    let agreement = Agreement::of(cards)?;
+    cards.transcript(&agreement.right[..data])?;
+    cards.refuse_foreign()?;
+    let advice = "they still open: open the transcript, and write it anew into another directory";
+    cards.need(data + 1, Failure::Repairable, advice)?;
+    agreement.refuse_wrong(cards)
 }
 
 /// Only absent nodes are repaired, so that no readable card is written over.
@@ -47,9 +71,9 @@ fn chosen_dead(cards: &Cards, named: Option<Vec<usize>>) -> Result<Vec<usize>, F
         return Ok(absent);
     };
     match named.iter().find(|node| !absent.contains(node)) {
-        Some(node) if *node < cards.shape.nodes => Err(Failure::Work(format!(
+        Some(node) if *node < cards.shape.nodes => Err(Failure::Usage(format!(
             "node {node} is not dead, its card can be read: move {} away first",
-            card_path(&cards.directory, *node).display()
+            cards.files_of(&[*node])
         ))),
         Some(node) => Err(no_such_node(cards, *node)),
         None => Ok(named),
@@ -65,7 +89,7 @@ fn chosen_helpers(cards: &Cards, named: Option<Vec<usize>>) -> Result<Vec<usize>
     };
     match named.iter().find(|node| !present.contains(node)) {
         Some(node) if *node < cards.shape.nodes => {
-            Err(Failure::Work(format!("node {node} cannot help, it has no readable card: name another")))
+            Err(Failure::Usage(format!("node {node} cannot help, it has no readable card: name another")))
         }
         Some(node) => Err(no_such_node(cards, *node)),
         None => Ok(named),
@@ -73,7 +97,7 @@ fn chosen_helpers(cards: &Cards, named: Option<Vec<usize>>) -> Result<Vec<usize>
 }
 
 fn no_such_node(cards: &Cards, node: usize) -> Failure {
-    Failure::Work(format!("there is no node {node}: nodes are 0 to {}", cards.shape.nodes - 1))
+    Failure::Usage(format!("there is no node {node}: nodes are 0 to {}", cards.shape.nodes - 1))
 }
 
 /// All nodes after the repair, and the plans it went by. A loss that the number of layers does not let be repaired in one
@@ -81,7 +105,7 @@ fn no_such_node(cards: &Cards, node: usize) -> Failure {
 fn repaired(cards: &Cards, dead: &[usize], helpers: &[usize]) -> Result<(Vec<u16>, String), Failure> {
     let shape = cards.shape;
     let advice = format!("name exactly {} helpers", shape.data + 1);
-    let refused = |refusal| Failure::refused("the repair cannot be made", refusal, &advice);
+    let refused = |refusal| Failure::refused(Failure::Usage, "the repair cannot be made", refusal, &advice);
     let mut nodes = cards.symbols_of(&(0..shape.nodes).collect::<Vec<_>>());
     let mut report = String::new();
     let mut rest = dead;
@@ -99,67 +123,50 @@ fn in_one_go(shape: Shape, left: usize) -> usize {
     (1..=left).rev().find(|&dead_count| shape.message_symbols(dead_count).is_ok()).unwrap_or(1)
 }
 
-/// A plan with the bytes of each message, and of the repairs that it spares.
+/// A plan with the symbols and bytes of each message, and of the repairs that it spares.
 fn plan_described(shape: Shape, dead: &[usize], helpers: &[usize]) -> Result<String, Failure> {
-    let mut report = format!("repair of nodes {} with the help of nodes {}\n", listed(dead), listed(helpers));
+    let mut report = format!("repair of {} with the help of {}\n", nodes_listed(dead), nodes_listed(helpers));
     report += "from  to  symbols     bytes\n";
     for message in plan::messages(shape, dead, helpers)? {
-        let bytes = SYMBOL_BYTES * message.symbols;
+        let bytes = packed_bytes(message.symbols);
         report += &format!("{:>4}{:>4}{:>9}{bytes:>10}\n", message.sender, message.receiver, message.symbols);
     }
     if let Some(t) = Traffic::of(shape, dead.len()) {
-        report += &format!(
-            "{} bytes in all; with whole nodes, {} through one new node, {} by each alone\n",
-            t.cooperative, t.through_one, t.each_alone
-        );
+        let sent = [(" in all", t.cooperative), (" with whole nodes through one new node", t.through_one)];
+        for (way, sent) in sent.into_iter().chain([(" with whole nodes to each alone", t.each_alone)]) {
+            report += &format!("{:>8}{:>9}{:>10}{way}\n", "", sent.symbols, sent.bytes);
+        }
     }
-    Ok(report)
+    Ok(report + ENCODING + "\n")
 }
 
 /// Puts the new cards in place once all of them are on the disk.
 fn put_cards(cards: &Cards, dead: &[usize], nodes: &[u16]) -> Result<(), Failure> {
     let mut pending = Vec::new();
     for &node in dead {
-        pending.push(pending_card(cards, node, nodes)?);
+        pending.push((node, pending_card(cards, node, nodes)?));
     }
-    for card in pending {
-        card.place().map_err(|e| Failure::of_path("put new cards into", &cards.directory, &e))?;
-    }
-    files::sync_directory(&cards.directory);
-    Ok(())
-}
-
-/// Refuses to write over anything but a file whose bytes are no card. One that cannot be read at all may be a good card.
-fn replaceable(path: &Path) -> Result<(), Failure> {
-    match fs::symlink_metadata(path) {
-        Err(e) if e.kind() == io::ErrorKind::NotFound => return Ok(()),
-        Ok(there) if !there.is_file() => {
-            return Err(Failure::Work(format!("{} is not a file: move it away", path.display())));
+    let failed = |e| Failure::of_path("put new cards into", &cards.directory, &e);
+    for (node, card) in pending {
+        // Where no file was to be replaced, one that came meanwhile is not.
+        match cards.is_taken(node) {
+            true => card.place().map_err(failed)?,
+            false => card.place_new().map_err(failed)?,
         }
-        _ => {}
     }
-    match fs::read(path) {
-        Ok(_) => Ok(()),
-        Err(e) => Err(Failure::Work(format!(
-            "{} may be good, but cannot be read: {e}; if it is lost, move it away",
-            path.display()
-        ))),
-    }
+    files::sync_directory(&cards.directory)
 }
 
-/// A node's new card under a temporary name.
+/// A node's new card under a temporary name, with the permissions of the file that it replaces.
 fn pending_card(cards: &Cards, node: usize, nodes: &[u16]) -> Result<Pending, Failure> {
-    let refused =
-        |refusal| Failure::refused("the new card cannot be packed", refusal, "this is a fault of the program");
-    let path = card_path(&cards.directory, node);
-    replaceable(&path)?;
+    let refused = |refusal| {
+        Failure::refused(Failure::Lost, "the new card cannot be packed", refusal, "this is a fault of the program")
+    };
     let size = cards.shape.node_symbols().map_err(refused)?;
     let symbols = &nodes[node * size..][..size];
     let card = cards.shape.pack_to_vec(node, cards.length, symbols).map_err(refused)?;
-    Pending::write(&path, &card).map_err(|e| Failure::of_path("write a new card into", &cards.directory, &e))
-}
-
-fn names(cards: &Cards, dead: &[usize]) -> String {
-    let paths: Vec<PathBuf> = dead.iter().map(|&node| card_path(&cards.directory, node)).collect();
-    paths.iter().map(|path| path.display().to_string()).collect::<Vec<_>>().join(", ")
+    let path = card_path(&cards.directory, node);
+    let permissions = fs::symlink_metadata(&path).ok().map(|there| there.permissions());
+    let failed = |e| Failure::of_path("write a new card into", &cards.directory, &e);
+    Pending::write(&path, &card, permissions).map_err(failed)
 }

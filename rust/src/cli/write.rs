@@ -1,91 +1,139 @@
 //! `hmsr write`: a transcript into one card a node.
 use std::fs;
+use std::io;
 use std::path::{Path, PathBuf};
 
 use hmsr::Shape;
 
 use super::args::Args;
-use super::cards::{card_path, numbers_of_cards};
+use super::card_files::{card_name, card_path, numbers_of_cards};
 use super::files::{self, Pending};
-use super::{layers, Failure};
+use super::temporary::{self, Temporary};
+use super::text::{counted, shown};
+use super::{layers, Failure, Report};
 
-pub fn run(args: &Args) -> Result<String, Failure> {
+pub fn run(args: &Args) -> Result<Report, Failure> {
     let (nodes, data) = (args.required_number("--nodes")?, args.required_number("--data")?);
-    write(args.path(0), args.path(1), nodes, data, args.number("--layers")?)
+    write(args.path(0), args.path(1), nodes, data, args.number("--layers")?).map(Report::from)
 }
 
 /// Writes the file's bytes into cards in the directory, which is made where it is not there.
 pub fn write(
     file: &Path, directory: &Path, nodes: usize, data: usize, named_layers: Option<usize>,
 ) -> Result<String, Failure> {
-    let most = layers::most_bytes(nodes, data)?;
-    let bytes = files::read(file, most).map_err(|e| Failure::of_path("read", file, &e))?;
-    // A file of more than the most bytes was not read; a length that no archive holds stands for it.
+    let bytes = transcript(file, layers::most_bytes(nodes, data)?)?;
+    // A transcript of more than the most bytes was not read; a length that no archive holds stands for it.
     let length = bytes.as_ref().map_or(usize::MAX, Vec::len);
     let shape = match named_layers {
         Some(layers) => layers::named(nodes, data, layers, length)?,
         None => layers::choose(nodes, data, length)?,
     };
     let cards = packed(shape, &bytes.unwrap_or_default())?;
-    put_cards(directory, &cards)?;
+    let finished = put_cards(directory, &cards)?;
+    let gives = if data == 1 { "of them gives" } else { "of them give" };
     Ok(format!(
-        "wrote {length} bytes into {nodes} cards in {}: any {data} of them give it back\n\
-         {} layers, {} bytes at most: {}\n",
-        directory.display(),
-        shape.layers,
+        "wrote {} into {nodes} cards in {}: any {data} {gives} it back\n{}, {} bytes at most: {}\n{finished}",
+        counted(length, "byte"),
+        shown(directory),
+        counted(shape.layers, "layer"),
         shape.capacity().unwrap_or(0),
         layers::described(shape)
     ))
 }
 
+/// The bytes of a file or, for `-`, of standard input; `None` where there are more than the most.
+fn transcript(file: &Path, most: usize) -> Result<Option<Vec<u8>>, Failure> {
+    if file == Path::new("-") {
+        let read = files::read_bounded(io::stdin().lock(), most);
+        return read.map_err(|e| Failure::Io(format!("cannot read standard input: {e}")));
+    }
+    files::read(file, most).map_err(|e| Failure::of_path("read", file, &e))
+}
+
 /// The card of each node.
 fn packed(shape: Shape, transcript: &[u8]) -> Result<Vec<Vec<u8>>, Failure> {
-    let refused =
-        |refusal| Failure::refused("the transcript cannot be written", refusal, "this is a fault of the program");
+    let refused = |refusal| {
+        Failure::refused(Failure::Lost, "the transcript cannot be written", refusal, "this is a fault of the program")
+    };
     let size = shape.node_symbols().map_err(refused)?;
     let symbols = shape.write_to_nodes(transcript).map_err(refused)?;
     let nodes = symbols.chunks_exact(size).enumerate();
     nodes.map(|(node, symbols)| shape.pack_to_vec(node, transcript.len(), symbols).map_err(refused)).collect()
 }
 
-/// Puts the cards into the directory, all or none.
-fn put_cards(directory: &Path, cards: &[Vec<u8>]) -> Result<(), Failure> {
-    let made = make_directory(directory)?;
-    let put = put_all(directory, cards);
-    if put.is_err() && made {
-        // It was empty when it was made; if another program put something there since, it stays.
-        let _ = fs::remove_dir(directory);
+/// Puts the cards into the directory, all or none. Says so where some were there.
+fn put_cards(directory: &Path, cards: &[Vec<u8>]) -> Result<String, Failure> {
+    temporary::clean(files::parent(directory));
+    if !directory.is_dir() {
+        return put_directory(directory, cards).map(|()| String::new());
     }
-    put
+    temporary::clean(directory);
+    let there = refuse_others(directory, cards)?;
+    put_missing(directory, cards, &there)?;
+    Ok(match there.len() {
+        0 => String::new(),
+        1 => "1 of these cards was there already\n".to_string(),
+        count => format!("{count} of these cards were there already\n"),
+    })
 }
 
-/// Whether the directory had to be made.
-fn make_directory(directory: &Path) -> Result<bool, Failure> {
-    if directory.is_dir() {
-        return Ok(false);
+/// A new directory with all cards in it: made under a temporary name beside it, and given its name at once.
+fn put_directory(directory: &Path, cards: &[Vec<u8>]) -> Result<(), Failure> {
+    let unmade = |e| Failure::of_path("make the directory", directory, &e);
+    if fs::symlink_metadata(directory).is_ok() {
+        return Err(unmade(io::ErrorKind::NotADirectory.into()));
     }
-    fs::create_dir(directory).map_err(|e| Failure::of_path("make the directory", directory, &e))?;
-    Ok(true)
+    let parent = files::parent(directory);
+    let made = Temporary::directory(parent).map_err(unmade)?;
+    let mut written = cards.iter().enumerate();
+    written
+        .try_for_each(|(node, card)| files::write_new(&made.path.join(card_name(node)), card))
+        .map_err(|e| Failure::of_path("write cards into", directory, &e))?;
+    files::sync_directory(&made.path)?;
+    made.rename(directory).map_err(unmade)?;
+    files::sync_directory(parent)
 }
 
-fn put_all(directory: &Path, cards: &[Vec<u8>]) -> Result<(), Failure> {
-    if let Some(node) = numbers_of_cards(directory)?.first() {
-        let there = card_path(directory, *node);
-        return Err(Failure::Work(format!("{} is there already: choose another directory", there.display())));
-    }
-    let failed = |e| Failure::of_path("write cards into", directory, &e);
-    let write = |(node, card): (usize, &Vec<u8>)| Pending::write(&card_path(directory, node), card).map_err(failed);
-    let pending = cards.iter().enumerate().map(write).collect::<Result<Vec<_>, _>>()?;
-    let mut placed = Vec::new();
-    for (node, card) in pending.into_iter().enumerate() {
-        if let Err(e) = card.place_new() {
-            remove(&placed);
-            return Err(failed(e));
+/// The nodes whose cards are there already, all of them the very cards that are to be written: a killed write of the same
+/// transcript has left them. Any other card is refused.
+fn refuse_others(directory: &Path, cards: &[Vec<u8>]) -> Result<Vec<usize>, Failure> {
+    let there = numbers_of_cards(directory)?;
+    let same = |node: usize| cards.get(node).is_some_and(|card| holds(&card_path(directory, node), card));
+    match there.iter().find(|&&node| !same(node)) {
+        Some(&node) => {
+            let card = shown(&card_path(directory, node));
+            Err(Failure::Io(format!("{card} is there already: choose another directory")))
         }
-        placed.push(card_path(directory, node));
+        None => Ok(there),
     }
-    files::sync_directory(directory);
-    Ok(())
+}
+
+/// Whether a file has exactly these bytes.
+fn holds(path: &Path, card: &[u8]) -> bool {
+    files::read(path, card.len()).is_ok_and(|bytes| bytes.as_deref() == Some(card))
+}
+
+/// Puts the cards that are not there into the directory; the last of them completes it. Where the same write runs twice at
+/// once, each takes the cards that the other has put there.
+fn put_missing(directory: &Path, cards: &[Vec<u8>], there: &[usize]) -> Result<(), Failure> {
+    let failed = |e| Failure::of_path("write cards into", directory, &e);
+    let mut pending = Vec::new();
+    for (node, card) in cards.iter().enumerate().filter(|(node, _)| !there.contains(node)) {
+        let path = card_path(directory, node);
+        pending.push((Pending::write(&path, card, None).map_err(failed)?, path, card));
+    }
+    let mut placed = Vec::new();
+    for (new, path, card) in pending {
+        match new.place_new() {
+            Ok(()) => placed.push(path),
+            Err(_) if holds(&path, card) => {}
+            Err(e) => {
+                remove(&placed);
+                return Err(failed(e));
+            }
+        }
+    }
+    files::sync_directory(directory)
 }
 
 /// Takes cards away that this command placed.

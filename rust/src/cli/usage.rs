@@ -1,0 +1,87 @@
+//! How each command is called, as `--help` shows it.
+
+/// A command, how it is called and what it does.
+const USAGES: [(&str, &str); 7] = [
+    (
+        "write",
+        "\
+hmsr write FILE DIR --nodes N --data K [--layers L] [--quiet]
+        write FILE into N cards, DIR/node-00.card and so on, any K of which give it back (N is 3 to 12, K is 1 to
+        N - 2; without --layers the best number from 1 to 15 is chosen); FILE - is standard input; a write that was
+        killed is finished by the same write again
+",
+    ),
+    (
+        "check",
+        "\
+hmsr check DIR [--json] [--quiet]
+        whether every card is there and all agree
+",
+    ),
+    (
+        "open",
+        "\
+hmsr open DIR OUT [--quiet]
+        put the transcript into the new file OUT, from any K cards; OUT - is standard output, and then the report goes
+        to standard error
+",
+    ),
+    (
+        "repair",
+        "\
+hmsr repair DIR [--dead LIST] [--helpers LIST] [--dry-run] [--quiet]
+        make missing and unreadable cards anew, all of them or those in LIST, with the help of K + 1 others; LIST is
+        node numbers with commas, as 0,3,7; with --dry-run, say so and change nothing
+",
+    ),
+    (
+        "plan",
+        "\
+hmsr plan --nodes N --data K --layers L --dead LIST --helpers LIST [--json]
+        who sends how many symbols to whom in a repair
+",
+    ),
+    (
+        "info",
+        "\
+hmsr info CARD [--json]
+        what a card says of itself
+",
+    ),
+    (
+        "demo",
+        "\
+hmsr demo
+        write, lose, repair and open an archive in a temporary directory
+",
+    ),
+];
+
+const FRONT: &str = "\
+A transcript spread over drives, any k of which give it back, and lost ones refilled.
+
+";
+
+const BACK: &str = "\
+hmsr --help, hmsr COMMAND --help
+        this text, or that of one command
+hmsr --version
+        the version of the program
+
+--quiet prints no report, --json prints it for programs to read, -- ends the options.
+
+Exit status: 0 sound or done; 1 the transcript is there, but cards are missing or wrong: repair; 2 it is lost, or it
+cannot be told which cards are right; 3 wrong arguments; 4 a file cannot be read or written. All but 0 with one line on
+standard error.
+";
+
+/// Of all commands.
+pub fn all() -> String {
+    let usages: String = USAGES.iter().map(|(_, usage)| *usage).collect();
+    format!("{FRONT}{usages}{BACK}")
+}
+
+/// Of one command.
+pub fn of(command: &str) -> String {
+    USAGES.iter().filter(|(name, _)| *name == command).map(|(_, usage)| *usage).collect()
+}

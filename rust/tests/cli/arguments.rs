@@ -1,0 +1,76 @@
+//! Arguments: every error is one line, and help, versions and `--` do what they do elsewhere.
+use std::fs;
+
+use crate::place::{bytes, Place, USAGE};
+
+#[test]
+fn arguments_that_are_not_understood_are_told_on_one_line() {
+    let place = Place::new("usage");
+    for (line, complaint) in [
+        ("burn drives", "there is no command burn"),
+        ("--burn", "there is no command --burn"),
+        ("help burn", "there is no command burn"),
+        ("write transcript", "DIR is missing"),
+        ("write transcript drives --data 1", "--nodes is missing"),
+        ("write transcript drives --nodes six --data 1", "--nodes: six is not a whole number"),
+        ("write transcript drives --nodes -1 --data 1", "--nodes: -1 is not a whole number"),
+        ("write transcript drives --nodes 6 --nodes 6", "--nodes is given twice"),
+        ("write transcript drives --nodes", "--nodes needs a value"),
+        ("check drives others", "what is others for?"),
+        ("check drives --force", "there is no option --force here"),
+        ("check drives -f", "there is no option -f here"),
+        ("check drives --quiet --quiet", "--quiet is given twice"),
+        ("check drives --json=yes", "--json takes no value"),
+        ("open drives opened --json", "there is no option --json here"),
+        ("repair drives --dead 1,,2", "--dead:  is not a whole number"),
+        ("plan --nodes 4 --data 1 --layers 3 --dead 0", "--helpers is missing"),
+    ] {
+        assert_eq!(place.refuses(line, USAGE, &[]), format!("hmsr: {complaint} (see hmsr --help)\n"), "{line}");
+    }
+    let output = place.command(&[]).output().unwrap();
+    place.turned_back("nothing", &output, USAGE, &["which command?"]);
+}
+
+#[test]
+fn a_number_that_is_too_large_is_told_from_one_that_is_none() {
+    let place = Place::new("large_number");
+    for number in ["18446744073709551616", "99999999999999999999999999"] {
+        let too_large = format!("hmsr: --nodes: {number} is too large (see hmsr --help)\n");
+        assert_eq!(place.refuses(&format!("write a b --nodes {number} --data 1"), USAGE, &[]), too_large);
+        place.refuses(&format!("repair a --dead 1,{number}"), USAGE, &["--dead: ", "is too large"]);
+    }
+    place.refuses("write a b --nodes 1e3 --data 1", USAGE, &["1e3 is not a whole number"]);
+}
+
+#[test]
+fn help_and_version_are_shown() {
+    let place = Place::new("help");
+    assert_eq!(place.does("--version"), format!("hmsr {}\n", env!("CARGO_PKG_VERSION")));
+    let commands = ["write", "check", "open", "repair", "plan", "info", "demo"];
+    for line in ["--help", "-h", "help"] {
+        let help = place.does(line);
+        assert!(commands.iter().all(|command| help.contains(&format!("\nhmsr {command}"))), "{line}: {help}");
+        assert!(help.contains("Exit status: 0"), "{line}: {help}");
+    }
+    for command in commands {
+        for line in [format!("{command} --help"), format!("{command} -h"), format!("help {command}")] {
+            let help = place.does(&line);
+            assert!(help.starts_with(&format!("hmsr {command}")), "{line}: {help}");
+            assert_eq!(help.matches("hmsr ").count(), 1, "{line}: {help}");
+        }
+        // Help is given whatever else is there.
+        assert_eq!(place.does(&format!("{command} a b c --help")), place.does(&format!("{command} --help")));
+    }
+}
+
+#[test]
+fn what_stands_behind_two_dashes_is_a_word() {
+    let place = Place::new("dashes");
+    fs::write(place.path("--help"), bytes(10, 1)).unwrap();
+    place.does("write --nodes 3 --data 1 -- --help --drives");
+    place.does("open -- --drives -out");
+    assert_eq!(fs::read(place.path("-out")).unwrap(), bytes(10, 1));
+    // A second one is a word itself.
+    place.refuses("check -- --", 4, &["cannot read the directory --"]);
+    place.refuses("check -- --drives --quiet", USAGE, &["what is --quiet for?"]);
+}
