@@ -279,7 +279,7 @@ fn bench_cards(table: &mut Table, written: &Written) {
 
 /// A "symbol" of a plan is a byte of its text; no transcript is behind it.
 fn bench_plan(table: &mut Table, written: &Written, choice: &Choice) {
-    let input = hmsr::plan_input(written.shape, &choice.dead, &choice.helpers);
+    let input = Repair { shape: written.shape, dead: &choice.dead, helpers: &choice.helpers }.plan_input();
     let mut text = vec![0; hmsr::PLAN_TEXT];
     let length = naive::plan(&input).len();
     table.line(

@@ -35,7 +35,7 @@ mod shape;
 
 pub use card::{unpack, unpack_into, unpack_to_vec, Header};
 pub use code::Checked;
-pub use plan::{plan, plan_input, plan_text, PLAN_TEXT};
+pub use plan::{plan, plan_text, PLAN_TEXT};
 pub use refusal::Refusal;
 pub use repair::{FirstStep, Repair};
 pub use shape::Shape;

@@ -1,7 +1,7 @@
 //! The transfer plan of a repair, as text.
 use crate::ffi;
 use crate::refusal::found;
-use crate::{Refusal, Shape};
+use crate::{Refusal, Repair, Shape};
 
 /// The bytes that a text buffer has at least.
 pub const PLAN_TEXT: usize = 1339;
@@ -24,6 +24,7 @@ pub fn plan(input: &[u8], text: &mut [u8]) -> Result<usize, Refusal> {
 /// assert_eq!(text, b"4 1 3 2\n2 0 16\n3 0 16\n2 1 16\n3 1 16\n1 0 16\n0 1 16\n96\n");
 /// assert_eq!(hmsr::plan_text(&[4]), b"6\n");
 /// ```
+#[must_use]
 pub fn plan_text(input: &[u8]) -> Vec<u8> {
     let mut text = vec![0; PLAN_TEXT];
     let length = plan(input, &mut text).expect("the buffer has the bytes that a plan needs");
@@ -31,20 +32,24 @@ pub fn plan_text(input: &[u8]) -> Vec<u8> {
     text
 }
 
-/// The input of the plan for a repair.
-///
-/// ```
-/// use hmsr::{plan_input, Shape};
-/// let shape = Shape { nodes: 4, data: 1, layers: 3 };
-/// assert_eq!(plan_input(shape, &[0, 1], &[2, 3]), [4, 1, 3, 2, 0, 1, 2, 3]);
-/// ```
-pub fn plan_input(shape: Shape, dead: &[usize], helpers: &[usize]) -> Vec<u8> {
-    let front = [shape.nodes, shape.data, shape.layers, dead.len()];
-    let mut input = Vec::new();
-    for &number in front.iter().chain(dead).chain(helpers) {
-        put_number(number, &mut input);
+impl Repair<'_> {
+    /// The input of the repair's plan.
+    ///
+    /// ```
+    /// use hmsr::{Repair, Shape};
+    /// let repair = Repair { shape: Shape { nodes: 4, data: 1, layers: 3 }, dead: &[0, 1], helpers: &[2, 3] };
+    /// assert_eq!(repair.plan_input(), [4, 1, 3, 2, 0, 1, 2, 3]);
+    /// ```
+    #[must_use]
+    pub fn plan_input(&self) -> Vec<u8> {
+        let Shape { nodes, data, layers } = self.shape;
+        let front = [nodes, data, layers, self.dead.len()];
+        let mut input = Vec::new();
+        for &number in front.iter().chain(self.dead).chain(self.helpers) {
+            put_number(number, &mut input);
+        }
+        input
     }
-    input
 }
 
 /// A number in groups of seven bits, least first; every byte but the last has 128 added.

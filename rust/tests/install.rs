@@ -145,7 +145,7 @@ fn the_library_and_the_program_are_built_before_they_are_installed() {
 fn the_manual_page_has_every_command_and_option() {
     let page = fs::read_to_string(top().join("install/hmsr.1.in")).unwrap();
     let summary = printed(Command::new(PROGRAM).arg("--help"));
-    let commands = summary.lines().filter_map(|line| line.trim_start().strip_prefix("hmsr ")?.split(' ').next());
+    let commands = summary.lines().filter_map(|line| line.trim_start().strip_prefix("hmsr ")?.split([' ', ',']).next());
     let options = summary.split(|c: char| c != '-' && !c.is_ascii_alphanumeric()).filter(|word| word.starts_with("--"));
     let words: Vec<&str> = commands.chain(options).collect();
     assert!(["write", "repair", "demo", "--layers", "--help"].iter().all(|word| words.contains(word)), "{words:?}");

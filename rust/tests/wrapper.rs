@@ -1,8 +1,7 @@
 //! What the wrapper adds to the library: no length, shape or card from safe code can do harm, and the conveniences answer
 //! as the calls they wrap.
 use hmsr::{
-    plan, plan_input, plan_text, unpack, unpack_into, unpack_to_vec, Checked, FirstStep, Header, Refusal, Repair,
-    Shape, PLAN_TEXT,
+    plan, plan_text, unpack, unpack_into, unpack_to_vec, Checked, FirstStep, Header, Refusal, Repair, Shape, PLAN_TEXT,
 };
 
 /// Document 01's first archive: n = 3, k = 1, L = 1, bytes 3 6.
@@ -130,7 +129,7 @@ fn conveniences_and_sizes_judge_every_shape() {
             judged(shape.message_symbols(dead_count).map(drop));
             judged(shape.wire_symbols(dead_count).map(drop));
         }
-        assert!(plan_text(&plan_input(shape, &[0], &[1, 2])).ends_with(b"\n"));
+        assert!(plan_text(&Repair { shape, dead: &[0], helpers: &[1, 2] }.plan_input()).ends_with(b"\n"));
     }
 }
 

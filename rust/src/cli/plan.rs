@@ -1,5 +1,5 @@
 //! `hmsr plan`: the transfer plan of a repair, as the plan program prints it.
-use hmsr::{plan_input, plan_text, Refusal, Shape};
+use hmsr::{plan_text, Refusal, Repair, Shape};
 
 use super::args::Args;
 use super::{json, Failure, Report};
@@ -50,7 +50,7 @@ fn for_programs(shape: Shape, dead: &[usize], helpers: &[usize]) -> Result<Strin
 
 /// The plan's text. A refused plan is one line with one number.
 pub fn text(shape: Shape, dead: &[usize], helpers: &[usize]) -> Result<String, Failure> {
-    let text = String::from_utf8_lossy(&plan_text(&plan_input(shape, dead, helpers))).into_owned();
+    let text = String::from_utf8_lossy(&plan_text(&Repair { shape, dead, helpers }.plan_input())).into_owned();
     match text.trim_end().parse().ok().and_then(Refusal::from_number) {
         Some(refusal) => Err(Failure::refused(Failure::Usage, "there is no such repair", refusal, advice(refusal))),
         None => Ok(text),
