@@ -48,7 +48,7 @@ module _ (c : Code) (s : Shape) (dead helpers nodes : List ℕ) where
 -- Demand 3: what is on the wire and what the nodes hold after a whole repair, for any symbols, and where the helpers hold a codeword's
 -- (`exact`). "Its messages are the pieces of N/(h+1) symbols that fill the wire buffer, one behind the other."
 pub record WholeRepair (c : Code) (s : Shape) (dead helpers nodes wire after : List ℕ) : Type 0 where
-  -- "exactly k+1" helpers
+  -- "Helpers are exactly k+1 other nodes"
   pub helpers-count : length helpers ≡ s .k + 1
   pub count : length wire ≡ length dead * (s .k + length dead) * messageSize s dead
   pub share : messageSize s dead * (length dead + 1) ≡ size s
