@@ -76,7 +76,7 @@ weigh : (L N h l b m t : ℕ) → L ≡ l * b → N ≡ m * t → h ≡ b * t �
 weigh L N h l b m t e d f = rw (e, d, f) (omega arith)
 
 module _ {s : Shape} {dead : List ℕ} (D : Dead s dead) where
-  members-size : (c : ℕ) → c ≤ top dead → length (members dead c (2 ^ s .n)) * (top dead + 1) ≡ 2 ^ s .n
+  pub members-size : (c : ℕ) → c ≤ top dead → length (members dead c (2 ^ s .n)) * (top dead + 1) ≡ 2 ^ s .n
   unfolding count members
   members-size c h = ap (λ x. x * (top dead + 1)) (picked-count (inClass dead c) (2 ^ s .n)) ∙ count-each D c h
 

@@ -10,5 +10,6 @@ pub mod FirstStep
 pub mod SecondStep
 pub mod Layouts
 pub mod Passes
+pub mod Members
 pub mod Placing
 pub mod Wire

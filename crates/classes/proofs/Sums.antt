@@ -21,28 +21,28 @@ module _ (dead : List ℕ) (c : ℕ) where
   unfolding members inClass
   member-lt n a h e = picked-lt (inClass dead c) n a h (eq-eqb (classOf dead a) c e)
 
-  member-at : (n a d : ℕ) → a < n → classOf dead a ≡ c → getD (members dead c n) (length (members dead c a)) d ≡ a
+  pub member-at : (n a d : ℕ) → a < n → classOf dead a ≡ c → getD (members dead c n) (length (members dead c a)) d ≡ a
   unfolding members inClass
   member-at n a d h e = picked-at (inClass dead c) n a d h (eq-eqb (classOf dead a) c e)
 
   -- what stands at place r of a class
-  record Member (n r : ℕ) : Type 0 where
-    a : ℕ
-    below : a < n
-    inside : classOf dead a ≡ c
-    place : length (members dead c a) ≡ r
+  pub record Member (n r : ℕ) : Type 0 where
+    pub a : ℕ
+    pub below : a < n
+    pub inside : classOf dead a ≡ c
+    pub place : length (members dead c a) ≡ r
 
-  member-found : (n r : ℕ) → r < length (members dead c n) → Member n r
+  pub member-found : (n r : ℕ) → r < length (members dead c n) → Member n r
   unfolding members inClass
   member-found n r h =
       let f = picked-found (inClass dead c) n r h in
       record { a = f .number; below = f .below; inside = eqb-true (classOf dead (f .number)) c (f .passes); place = f .place }
 
 -- the members of a rank's class, and how many
-abbrev own : Shape → List ℕ → ℕ → ℕ → ℕ
+abbrev pub own : Shape → List ℕ → ℕ → ℕ → ℕ
 own s dead u below = length (members dead (rankClass dead u) below)
 
-sumAt-is : (s : Shape) (dead : List ℕ) (u b a : ℕ) → sumAt s dead u b a ≡ b * own s dead u (2 ^ s .n) + own s dead u a
+pub sumAt-is : (s : Shape) (dead : List ℕ) (u b a : ℕ) → sumAt s dead u b a ≡ b * own s dead u (2 ^ s .n) + own s dead u a
 unfolding sumAt
 sumAt-is s dead u b a = refl
 

@@ -3,11 +3,12 @@ use mathlib.Core.Path.{_≡_}
 use mathlib.Core.Bool.{true, false}
 use mathlib.Core.List.{List}
 use Prim.Native.Nat.{ℕ, _/_, _%_, _^_, _≤_, _<_}
-use lib.ListN.{length}
+use lib.ListN.{length, getD}
 use Rattle.lists.specs.Lists.{rising}
+use Rattle.shape.specs.Shape.{mostNodes}
 use Rattle.shape.specs.Refusals.{shapeBad}
 use Rattle.classes.specs.declared.Layout.{Layout}
-use Rattle.classes.specs.Classes.{batch, top, messageSize}
+use Rattle.classes.specs.Classes.{batch, top, members, messageSize}
 
 -- the numbers of a layout are those of its shape and the dead nodes, and no cause 1 to 3 holds of these
 pub record Ready (dead : List ℕ) (g : Layout) : Type 0 where
@@ -21,3 +22,8 @@ pub record Ready (dead : List ℕ) (g : Layout) : Type 0 where
   pub batches-is : g .batches ≡ g .shape .layers / batch dead
   pub top-is : g .top ≡ top dead
   pub share-is : g .share ≡ messageSize (g .shape) dead
+
+-- the first elements of a table are the a of class c below 2^n, rising
+pub record Listed (dead : List ℕ) (c n : ℕ) (out : List ℕ) : Type 0 where
+  pub long : length out ≡ 2 ^ mostNodes
+  pub each : (x : ℕ) → x < length (members dead c (2 ^ n)) → getD out x 0 ≡ getD (members dead c (2 ^ n)) x 0

@@ -5,17 +5,20 @@ use shape::size;
 use shape::two_to;
 ghost use mathlib.Core.Path.{_≡_};
 ghost use mathlib.Core.Bool.{true, false, cond};
-ghost use Prim.Native.Nat.{_+_, _*_, _/_, _%_, _^_, _≤_, _<_};
+ghost use Prim.Native.Nat.{ℕ, _+_, _*_, _/_, _%_, _^_, _≤_, _<_};
 ghost use lib.Bits.{bitXor};
 ghost use lib.Dec.{eqb};
 ghost use lib.ListN.{length};
 ghost use Rattle.lists.specs.Digits.{bit};
 ghost use Rattle.shape.specs.Shape.{mostNodes, size};
 ghost use Rattle.shape.specs.Refusals.{shapeBad};
-ghost use Rattle.classes.specs.Classes.{batch, classOf, rankClass, inClass};
+ghost use Rattle.classes.specs.Classes.{batch, top, classOf, rankClass, inClass, members};
 ghost use Rattle.classes.specs.Steps.{place};
-ghost use Rattle.classes.specs.Layout.{Ready};
+ghost use Rattle.classes.specs.Layout.{Ready, Listed};
 ghost use Rattle.lists.specs.Lists.{member, position, rising};
+
+// The most members of a class, those of a layer.
+pub const MEMBERS: usize = 4096;
 
 // What the shape and the dead nodes fix, worked out once for each call.
 pub struct Layout {
@@ -119,6 +122,29 @@ pub fn of_class(g: Layout, dead: &[usize], c: usize, e: usize) -> bool
     ensures { λ r. ⌜ r ≡ inClass (now (dead .entry)) c (e % 2 ^ g .shape .n) ⌝ }
 {
     class_of(g, dead, a_at(g, dead, e)) == c
+}
+
+// How many a are of a class.
+pub fn class_size(g: Layout, dead: &[usize]) -> usize
+    requires { ⌜ Ready (now dead) g ⌝ }
+    ensures { λ r. ⌜ ((c : ℕ) → c ≤ top (now (dead .entry)) → r ≡ length (members (now (dead .entry)) c (2 ^ g .shape .n))) ⌝ }
+{
+    g.places / (g.top + 1)
+}
+
+// The a of class c, rising. What is written at x is written over where its a is not of the class.
+pub fn members_of(g: Layout, dead: &[usize], c: usize) -> [u16; MEMBERS]
+    requires { ⌜ Ready (now dead) g ⌝ }
+    ensures { λ out. ⌜ Listed (now (dead .entry)) c (g .shape .n) out ⌝ }
+{
+    let places = g.places;
+    let mut out = [0u16; MEMBERS];
+    let mut x = 0;
+    for a in 0..places {
+        out[x] = a as u16;
+        x += (class_of(g, dead, a) == c) as usize;
+    }
+    out
 }
 
 // The rank of a dead node: its position in the list.
