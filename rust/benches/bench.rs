@@ -3,7 +3,8 @@
 //! "ns/symbol" is the time of a call over the symbols it makes (or, checking, looks at). "MB/s" is the transcript behind
 //! the call over its time: k × N bytes where the call works on the whole archive, N where it works on one node.
 //! "ratio" is the naive implementation's time over the library's. All calls are measured in five rounds, one behind the
-//! other, and each number is the median of its five.
+//! other, and each number is the median of its five. Below stand the whole repairs once more: what they put on the new
+//! drives, and the bytes that they send.
 
 #[path = "../tests/naive/mod.rs"]
 mod naive;
@@ -14,7 +15,7 @@ use std::hint::black_box;
 use std::time::{Duration, Instant};
 
 const SHAPES: [(usize, usize, usize); 6] = [(3, 1, 1), (6, 4, 3), (12, 6, 15), (12, 6, 1), (12, 10, 1), (12, 1, 1)];
-const DEAD_COUNTS: [usize; 3] = [1, 2, 3];
+const DEAD_COUNTS: [usize; 4] = [1, 2, 3, 5];
 const ROUNDS: usize = 5;
 
 /// A line of a round goes on until it has so many runs of each side, or else the least number and this time.
@@ -30,6 +31,8 @@ struct Line {
     name: String,
     symbols: usize,
     bytes: usize,
+    /// What a whole repair sends, in bytes.
+    sent: usize,
     library: Vec<f64>,
     naive: Vec<f64>,
 }
@@ -45,6 +48,12 @@ impl Line {
         let per_symbol = 1e9 * library / self.symbols as f64;
         let rate = if self.bytes == 0 { "-".to_string() } else { format!("{:.2}", self.bytes as f64 / library / 1e6) };
         println!("{:<36}{per_symbol:>12.2}{rate:>12}{naive:>14.2}{:>9.2}", self.name, self.ratio());
+    }
+
+    /// What is put on the new drives, a byte a symbol, over the time; and what is sent for it.
+    fn print_repair(&self) {
+        let rate = self.symbols as f64 / median(self.library.clone()) / 1e6;
+        println!("{:<36}{rate:>12.2}{:>12}", self.name, self.sent);
     }
 }
 
@@ -65,13 +74,20 @@ impl Table {
                 line.library.push(library);
                 line.naive.push(naive);
             }
-            None => self.lines.push(Line { name, symbols, bytes, library: vec![library], naive: vec![naive] }),
+            None => self.lines.push(Line { name, symbols, bytes, sent: 0, library: vec![library], naive: vec![naive] }),
         }
+    }
+
+    /// Says what the call of that name sends.
+    fn sends(&mut self, name: &str, bytes: usize) {
+        self.lines.iter_mut().filter(|line| line.name == name).for_each(|line| line.sent = bytes);
     }
 
     fn print(&self) {
         println!("{:<36}{:>12}{:>12}{:>14}{:>9}", "(n, k, L) call", "ns/symbol", "MB/s", "naive ns/sym", "ratio");
         self.lines.iter().for_each(Line::print);
+        println!("{:<36}{:>12}{:>12}", "whole repairs", "drives MB/s", "line bytes");
+        self.lines.iter().filter(|line| line.sent != 0).for_each(Line::print_repair);
         let slower: Vec<String> =
             self.lines.iter().filter(|line| line.ratio() < 1.0).map(|line| line.name.clone()).collect();
         println!("Ratio below 1: {}.", if slower.is_empty() { "none".to_string() } else { slower.join(", ") });
@@ -211,7 +227,13 @@ fn bench_repair(table: &mut Table, written: &Written, choice: &Choice) {
         || naive::repair(*plain, dead, helpers, black_box(nodes), wire_length).unwrap(),
     );
     assert_eq!(naive::repair(*plain, dead, helpers, nodes, wire_length).as_ref(), Ok(&(all, wire.clone())));
+    table.sends(&written.name(&format!("repair h={h}")), h * (plain.k + h) * message_bytes(*length));
     bench_steps(table, written, choice, &wire);
+}
+
+/// The bytes of a message as one number to base 257.
+fn message_bytes(symbols: usize) -> usize {
+    (symbols as f64 * 257f64.log2() / 8.0).ceil() as usize
 }
 
 /// The calls of one helper and one new node, of rank 0, with what stood on the wire.
