@@ -27,6 +27,7 @@ use Rattle.multipliers.specs.Multipliers.{multiplier}
 use Rattle.multipliers.proofs.Multipliers.{missing-sum}
 use Rattle.tables.specs.Tables.{tableSize, Table}
 use Rattle.filling.specs.Filling.{term, Summable, Summed, listedAt, Fillable, FilledRun, Filled, InRun, InLayers, Below, Everywhere}
+use Rattle.filling.proofs.Runs.{layers-split, layers-before, layers-here, runs-split}
 
 -- a place of another row is outside a run of places of row i
 pub apart : (each i k p place run : ℕ) → k ≢ i → p < each → place + run ≤ each → (k * each + p < i * each + place) ⊎ (i * each + place + run ≤ k * each + p)
@@ -192,61 +193,25 @@ run-filled n each layer a run list table before after h w v = record {
         go (inr l) (inl g) = absurd (d (l, g))
 
 module _ (n layers a run : ℕ) (list : List ℕ) (up : rising 0 n list ≡ true) (h : a + run ≤ 2 ^ n) (pos : 0 < 2 ^ n) where
-  -- the places of a layer
-  in-layer : (layer p : ℕ) → InRun (layer * 2 ^ n + a) run p → (p / 2 ^ n ≡ layer) × (a ≤ p % 2 ^ n) × (p % 2 ^ n < a + run)
-  in-layer layer p d =
-      let t = p - layer * 2 ^ n in
-      let e : p ≡ layer * 2 ^ n + t = omega arith in
-      let b : t < 2 ^ n = omega arith in
-      let z : p / 2 ^ n ≡ layer = ap (λ k. k / 2 ^ n) e ∙ digits-div layer b in
-      let m : p % 2 ^ n ≡ t = ap (λ k. k % 2 ^ n) e ∙ digits-mod layer b in
-      (z, omega arith, omega arith)
-
-  of-layer : (layer p : ℕ) → p / 2 ^ n ≡ layer → a ≤ p % 2 ^ n → p % 2 ^ n < a + run → InRun (layer * 2 ^ n + a) run p
-  of-layer layer p e l g = let z : layer * 2 ^ n + p % 2 ^ n ≡ p = ap (λ k. k * 2 ^ n + p % 2 ^ n) (sym e) ∙ div-add-mod' p (2 ^ n) in (omega arith, omega arith)
-
-  -- those of one layer more are its own, and those before
-  pub layers-split : (layer p : ℕ) → InLayers n a run (layer + 1) p → InRun (layer * 2 ^ n + a) run p ⊎ (InLayers n a run layer p × (InRun (layer * 2 ^ n + a) run p → ⊥))
-  layers-split layer p d = go (ℕ-discrete (p / 2 ^ n) layer)
-    where
-      go : Dec (p / 2 ^ n ≡ layer) → InRun (layer * 2 ^ n + a) run p ⊎ (InLayers n a run layer p × (InRun (layer * 2 ^ n + a) run p → ⊥))
-      go (yes e) = inl (of-layer layer p e (d .0) (d .1))
-      go (no e) = inr ((d .0, d .1, omega (arith, d .2, e)), λ z. e (in-layer layer p z .0))
-
-  pub layers-before : (layer p : ℕ) → InLayers n a run layer p → InLayers n a run (layer + 1) p
-  layers-before layer p d = (d .0, d .1, omega (arith, d .2))
-
-  pub layers-here : (layer p : ℕ) → InRun (layer * 2 ^ n + a) run p → InLayers n a run (layer + 1) p
-  layers-here layer p d = let z = in-layer layer p d in (z .1, z .2, omega (arith, z .0))
-
-  pub layers-none : (each : ℕ) (before : List ℕ) → Filled n each list (InLayers n a run 0) before before
+  pub layers-none : (each : ℕ) (before : List ℕ) → Filled n each list (InLayers (2 ^ n) a run 0) before before
   layers-none each before = filled-none n each list before _ (λ p l d. absurd (omega (arith, d .2)))
 
-  pub layers-more : (each layer : ℕ) (before now after : List ℕ) → Filled n each list (InLayers n a run layer) before now
-      → Filled n each list (InRun (layer * 2 ^ n + a) run) now after → Filled n each list (InLayers n a run (layer + 1)) before after
+  pub layers-more : (each layer : ℕ) (before now after : List ℕ) → Filled n each list (InLayers (2 ^ n) a run layer) before now
+      → Filled n each list (InRun (layer * 2 ^ n + a) run) now after → Filled n each list (InLayers (2 ^ n) a run (layer + 1)) before after
   layers-more each layer before now after w v =
-      filled-more n each list before _ _ _ now after w v (rising-below n list up) (λ p l. layers-split layer p) (λ p l. layers-before layer p) (λ p l. layers-here layer p)
-
--- the places of one run more of a are its own, and those before
-pub blocks-split : (n layers run block p : ℕ) → p < layers * 2 ^ n → Below n ((block + 1) * run) p
-    → InLayers n (block * run) run layers p ⊎ (Below n (block * run) p × (InLayers n (block * run) run layers p → ⊥))
-blocks-split n layers run block p l d = go (below-or-not (p % 2 ^ n) (block * run))
-  where
-    go : (p % 2 ^ n < block * run) ⊎ (block * run ≤ p % 2 ^ n) → InLayers n (block * run) run layers p ⊎ (Below n (block * run) p × (InLayers n (block * run) run layers p → ⊥))
-    go (inl g) = inr (g, λ z. omega (arith, z .0))
-    go (inr g) = inl (g, omega (arith, d), place-of layers (2 ^ n) p l .row)
+      filled-more n each list before _ _ _ now after w v (rising-below n list up) (λ p l. layers-split (2 ^ n) a run h layer p) (λ p l. layers-before (2 ^ n) a run h layer p) (λ p l. layers-here (2 ^ n) a run h layer p)
 
 module _ (n layers run : ℕ) (list : List ℕ) (up : rising 0 n list ≡ true) where
-  pub blocks-none : (each : ℕ) (before : List ℕ) → Filled n each list (Below n (0 * run)) before before
+  pub blocks-none : (each : ℕ) (before : List ℕ) → Filled n each list (Below (2 ^ n) (0 * run)) before before
   blocks-none each before = filled-none n each list before _ (λ p l d. absurd (omega (arith, d)))
 
-  pub blocks-more : (block : ℕ) (before now after : List ℕ) → Filled n (layers * 2 ^ n) list (Below n (block * run)) before now
-      → Filled n (layers * 2 ^ n) list (InLayers n (block * run) run layers) now after → Filled n (layers * 2 ^ n) list (Below n ((block + 1) * run)) before after
+  pub blocks-more : (block : ℕ) (before now after : List ℕ) → Filled n (layers * 2 ^ n) list (Below (2 ^ n) (block * run)) before now
+      → Filled n (layers * 2 ^ n) list (InLayers (2 ^ n) (block * run) run layers) now after → Filled n (layers * 2 ^ n) list (Below (2 ^ n) ((block + 1) * run)) before after
   blocks-more block before now after w v =
-      filled-more n (layers * 2 ^ n) list before _ _ _ now after w v (rising-below n list up) (λ p l. blocks-split n layers run block p l) (λ p l d. omega (arith, d))
+      filled-more n (layers * 2 ^ n) list before _ _ _ now after w v (rising-below n list up) (λ p l d. runs-split (2 ^ n) layers (block * run) run p l (omega (arith, d))) (λ p l d. omega (arith, d))
       (λ p l d. omega (arith, d .1))
 
-  pub blocks-end : (each blocks : ℕ) (before after : List ℕ) → blocks * run ≡ 2 ^ n → 0 < 2 ^ n → Filled n each list (Below n (blocks * run)) before after
+  pub blocks-end : (each blocks : ℕ) (before after : List ℕ) → blocks * run ≡ 2 ^ n → 0 < 2 ^ n → Filled n each list (Below (2 ^ n) (blocks * run)) before after
       → Filled n each list Everywhere before after
   blocks-end each blocks before after e pos w = filled-same n each list before _ _ after (λ p l d. rw e (mod-lt p pos)) (λ p l d. tt) w
 

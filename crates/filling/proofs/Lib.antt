@@ -1,3 +1,4 @@
 -- Laws of filling in, lowest first.
 pub mod Summing
+pub mod Runs
 pub mod Filling

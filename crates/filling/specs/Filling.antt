@@ -62,13 +62,13 @@ pub record Filled (n each : ℕ) (list : List ℕ) (Done : ℕ → Type 0) (befo
 abbrev pub InRun : ℕ → ℕ → ℕ → Type 0
 InRun place run p = (place ≤ p) × (p < place + run)
 
--- the places of the first m layers at a, a + 1, ..
+-- the places of the first m layers, of `size` places each, at a, a + 1, ..
 abbrev pub InLayers : ℕ → ℕ → ℕ → ℕ → ℕ → Type 0
-InLayers n a run m p = (a ≤ p % 2 ^ n) × (p % 2 ^ n < a + run) × (p / 2 ^ n < m)
+InLayers size a run m p = (a ≤ p % size) × (p % size < a + run) × (p / size < m)
 
 -- the places of all layers below a
 abbrev pub Below : ℕ → ℕ → ℕ → Type 0
-Below n a p = p % 2 ^ n < a
+Below size a p = p % size < a
 
 abbrev pub Everywhere : ℕ → Type 0
 Everywhere p = Unit {0}

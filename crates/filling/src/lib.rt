@@ -7,9 +7,9 @@ use rows::RUN;
 use rows::add_products;
 use rows::store;
 use shape::MODULUS;
-use shape::MOST_NODES;
 use shape::Shape;
 use shape::two_to;
+use tables::ENTRIES;
 use tables::TABLE;
 use tables::marks;
 ghost use mathlib.Core.Path.{_≡_};
@@ -26,7 +26,7 @@ ghost use Rattle.patterns.specs.Patterns.{patterns, Represented};
 ghost use Rattle.filling.specs.Filling.{Summable, Summed, Fillable, FilledRun, Filled, InLayers, Everywhere};
 
 // The sums, at a run of places, of the symbols in some rows of a buffer, each times its multiplier: those of the table's rows from `first` on.
-fn sum_row(
+pub fn sum_row(
     run: usize,
     each: usize,
     place: usize,
@@ -59,7 +59,7 @@ fn fill_run(
     place: usize,
     run: usize,
     list: &[usize],
-    marked: [bool; MOST_NODES],
+    marked: [bool; ENTRIES],
     table: &[u16],
     nodes: &mut [u16],
 )
@@ -81,14 +81,14 @@ fn fill_layers(
     a: usize,
     run: usize,
     list: &[usize],
-    marked: [bool; MOST_NODES],
+    marked: [bool; ENTRIES],
     few: bool,
     source: &[u16],
     table: &mut [u16],
     nodes: &mut [u16],
 )
     requires { ⌜ (shapeBad s ≡ false) × Fillable (s .n) (size s) (now list) (now nodes) × Marks (s .n) (now list) marked × (few ≡ true → Represented (s .n) marked (now list) (s .n) (now source)) × (run ≤ mostPlaces) × (a + run ≤ 2 ^ s .n) × (length (now table) ≡ tableSize) × Low (narrow .modulus) (now table) ⌝ }
-    ensures { λ _. ⌜ (length (now (table .exit)) ≡ tableSize) × Low (narrow .modulus) (now (table .exit)) × Filled (s .n) (size s) (now (list .entry)) (InLayers (s .n) a run (s .layers)) (now (nodes .entry)) (now (nodes .exit)) ⌝ }
+    ensures { λ _. ⌜ (length (now (table .exit)) ≡ tableSize) × Low (narrow .modulus) (now (table .exit)) × Filled (s .n) (size s) (now (list .entry)) (InLayers (2 ^ s .n) a run (s .layers)) (now (nodes .entry)) (now (nodes .exit)) ⌝ }
 {
     let n = s.n;
     let layers = s.layers;
@@ -121,7 +121,7 @@ fn run_of(n: usize) -> usize
 fn fill_runs(
     s: Shape,
     list: &[usize],
-    marked: [bool; MOST_NODES],
+    marked: [bool; ENTRIES],
     few: bool,
     source: &[u16],
     nodes: &mut [u16],
@@ -149,7 +149,7 @@ fn fill_runs(
 }
 
 // Likewise, with few multipliers worked out first, to pick from.
-fn fill_from_few(s: Shape, list: &[usize], marked: [bool; MOST_NODES], nodes: &mut [u16])
+fn fill_from_few(s: Shape, list: &[usize], marked: [bool; ENTRIES], nodes: &mut [u16])
     requires { ⌜ (shapeBad s ≡ false) × Fillable (s .n) (size s) (now list) (now nodes) × Marks (s .n) (now list) marked × (patterns marked (s .n) ≤ mostPlaces) ⌝ }
     ensures { λ _. ⌜ Filled (s .n) (size s) (now (list .entry)) Everywhere (now (nodes .entry)) (now (nodes .exit)) ⌝ }
 {

@@ -2,8 +2,8 @@
 // not listed, that is, a's bits there, and stays where all of them turn. So one a is worked out for each pattern of the bits at the nodes
 // that are not listed, with the bits of the listed nodes 0; where the bit of a listed node is 1, the opposite pattern serves.
 use rows::RUN;
-use shape::MOST_NODES;
 use shape::two_to;
+use tables::ENTRIES;
 use tables::multipliers;
 use tables::multipliers_at;
 ghost use mathlib.Core.Path.{_≡_};
@@ -28,7 +28,7 @@ fn bit(a: usize, i: usize) -> usize
 }
 
 // How many patterns the bits at the nodes that are not listed make.
-fn count(n: usize, marked: [bool; MOST_NODES]) -> usize
+fn count(n: usize, marked: [bool; ENTRIES]) -> usize
     requires { ⌜ n ≤ mostNodes ⌝ }
     ensures { λ out. ⌜ out ≡ patterns marked n ⌝ }
 {
@@ -43,7 +43,7 @@ fn count(n: usize, marked: [bool; MOST_NODES]) -> usize
 }
 
 // Whether they are so few, and the places so many, that picking pays.
-pub fn pays(n: usize, marked: [bool; MOST_NODES]) -> bool
+pub fn pays(n: usize, marked: [bool; ENTRIES]) -> bool
     requires { ⌜ n ≤ mostNodes ⌝ }
     ensures { λ few. ⌜ (few ≡ true → patterns marked n ≤ mostPlaces) ⌝ }
 {
@@ -59,7 +59,7 @@ pub fn pays(n: usize, marked: [bool; MOST_NODES]) -> bool
 }
 
 // The number with a pattern's bits at the nodes that are not listed, and 0 at those that are.
-fn number_of(n: usize, marked: [bool; MOST_NODES], pattern: usize) -> usize
+fn number_of(n: usize, marked: [bool; ENTRIES], pattern: usize) -> usize
     requires { ⌜ n ≤ mostNodes ⌝ }
     ensures { λ out. ⌜ Stands n marked pattern out ⌝ }
 {
@@ -79,7 +79,7 @@ fn number_of(n: usize, marked: [bool; MOST_NODES], pattern: usize) -> usize
 }
 
 // Such a number for each pattern.
-fn numbers_of(n: usize, marked: [bool; MOST_NODES], count: usize) -> [usize; RUN]
+fn numbers_of(n: usize, marked: [bool; ENTRIES], count: usize) -> [usize; RUN]
     requires { ⌜ (n ≤ mostNodes) × (count ≤ mostPlaces) ⌝ }
     ensures { λ out. ⌜ (length out ≡ mostPlaces) × ((p : ℕ) → p < count → Stands n marked p (element out p)) ⌝ }
 {
@@ -91,7 +91,7 @@ fn numbers_of(n: usize, marked: [bool; MOST_NODES], count: usize) -> [usize; RUN
 }
 
 // Their multipliers in each node below m that is not listed.
-pub fn represent(n: usize, m: usize, list: &[usize], marked: [bool; MOST_NODES], table: &mut [u16])
+pub fn represent(n: usize, m: usize, list: &[usize], marked: [bool; ENTRIES], table: &mut [u16])
     requires { ⌜ (n ≤ mostNodes) × (m ≤ n) × (patterns marked n ≤ mostPlaces) × (rising 0 n (now list) ≡ true) × Marks n (now list) marked × (length (now table) ≡ tableSize) × Low (narrow .modulus) (now table) ⌝ }
     ensures { λ _. ⌜ Represented n marked (now (list .entry)) m (now (table .exit)) ⌝ }
 {
@@ -111,7 +111,7 @@ fn lengthen(node: usize, a: usize, run: usize, row: &mut [usize; RUN])
 }
 
 // The patterns of a, a + 1, ..
-fn patterns_of(n: usize, marked: [bool; MOST_NODES], a: usize, run: usize) -> [usize; RUN]
+fn patterns_of(n: usize, marked: [bool; ENTRIES], a: usize, run: usize) -> [usize; RUN]
     requires { ⌜ (n ≤ mostNodes) × (run ≤ mostPlaces) × (a + run ≤ 2 ^ mostNodes) ⌝ }
     ensures { λ out. ⌜ (length out ≡ mostPlaces) × ((t : ℕ) → t < run → element out t ≡ pattern marked (a + t) n) ⌝ }
 {
@@ -190,7 +190,7 @@ fn pick(
     a: usize,
     run: usize,
     list: &[usize],
-    marked: [bool; MOST_NODES],
+    marked: [bool; ENTRIES],
     source: &[u16],
     table: &mut [u16],
 )
@@ -214,7 +214,7 @@ pub fn run_multipliers(
     a: usize,
     run: usize,
     list: &[usize],
-    marked: [bool; MOST_NODES],
+    marked: [bool; ENTRIES],
     few: bool,
     source: &[u16],
     table: &mut [u16],

@@ -1,4 +1,4 @@
-// The multipliers of a run of consecutive a, worked out together: for each node that is not listed, a row for each listed node.
+// The multipliers of a run of places, worked out together: for each entry of a column that is not listed, a row for each listed one.
 use code::point;
 use rows::RUN;
 use rows::inverses;
@@ -9,28 +9,44 @@ use shape::MOST_NODES;
 use shape::listed;
 ghost use mathlib.Core.Path.{_≡_};
 ghost use mathlib.Core.Bool.{true, false};
+ghost use mathlib.Core.List.{List};
 ghost use Prim.Native.Nat.{ℕ, _+_, _*_, _^_, _<_, _≤_};
 ghost use lib.ListN.{length, getD};
 ghost use Rattle.lists.specs.Lists.{element, member, rising};
 ghost use Rattle.shape.specs.Shape.{mostNodes};
 ghost use Rattle.code.specs.Code.{narrow};
 ghost use Rattle.rows.specs.Rows.{mostPlaces, Low, Stored};
-ghost use Rattle.tables.specs.Tables.{pointsSize, tableSize, pointOf, PointRows, Marks, DifferenceRow, NodeRows, TableOf, Table};
+ghost use Rattle.tables.specs.Tables.{mostEntries, pointsSize, tableSize, pointOf, oppositeOf, nodePoints, entryPoints, PointRows, Columns, Marks, Idle, DifferenceRow, RowsOver, TableOver, TableOf, Table};
 
-// A row of points for each node.
-const POINTS: usize = MOST_NODES * RUN;
+// The most entries of a column: the nodes', and one behind them.
+pub const ENTRIES: usize = MOST_NODES + 1;
+
+// A row of points for each entry.
+const POINTS: usize = ENTRIES * RUN;
 
 // A row of multipliers for each node and each listed node.
 pub const TABLE: usize = MOST_NODES * MOST_NODES * RUN;
 
-// Which of n nodes are listed.
-pub fn marks(n: usize, list: &[usize]) -> [bool; MOST_NODES]
-    requires { ⌜ n ≤ mostNodes ⌝ }
+// Which of n entries are listed.
+pub fn marks(n: usize, list: &[usize]) -> [bool; ENTRIES]
+    requires { ⌜ n ≤ mostEntries ⌝ }
     ensures { λ out. ⌜ Marks n (now (list .entry)) out ⌝ }
 {
-    let mut out = [false; MOST_NODES];
+    let mut out = [false; ENTRIES];
     for i in 0..n {
         out[i] = listed(list, i);
+    }
+    out
+}
+
+// Which of n nodes are not listed; the entry behind them is none of them.
+pub fn idle(n: usize, list: &[usize]) -> [bool; ENTRIES]
+    requires { ⌜ n ≤ mostNodes ⌝ }
+    ensures { λ out. ⌜ Idle n (now (list .entry)) out ⌝ }
+{
+    let mut out = [false; ENTRIES];
+    for i in 0..n {
+        out[i] = !listed(list, i);
     }
     out
 }
@@ -45,10 +61,20 @@ fn point_row(node: usize, each: &[usize], run: usize, at: usize, out: &mut [u32]
     }
 }
 
+// Their opposites.
+fn opposite_row(node: usize, each: &[usize], run: usize, at: usize, out: &mut [u32])
+    requires { ⌜ (node < mostNodes) × (at + run ≤ length (now out)) × (run ≤ length (now each)) ⌝ }
+    ensures { λ _. ⌜ Stored at run (oppositeOf (element (now (each .entry))) node) (now (out .entry)) (now (out .exit)) ⌝ }
+{
+    for t in 0..run {
+        out[at + t] = MODULUS - point(each[t], node);
+    }
+}
+
 // The points of n nodes at some a.
 fn point_rows(n: usize, each: &[usize], run: usize) -> [u32; POINTS]
     requires { ⌜ (n ≤ mostNodes) × (run ≤ mostPlaces) × (run ≤ length (now each)) ⌝ }
-    ensures { λ out. ⌜ PointRows n (element (now (each .entry))) run out ⌝ }
+    ensures { λ out. ⌜ PointRows n (nodePoints n (element (now (each .entry)))) run out ⌝ }
 {
     let mut out = [0u32; POINTS];
     for node in 0..n {
@@ -57,16 +83,16 @@ fn point_rows(n: usize, each: &[usize], run: usize) -> [u32; POINTS]
     out
 }
 
-// The product, at each place, of the point of node x less those of the nodes that are neither listed nor i.
+// The product, at each place, of the point of entry x less those of the entries that are neither listed nor i.
 fn differences(
     n: usize,
     run: usize,
     points: &[u32],
-    marked: [bool; MOST_NODES],
+    marked: [bool; ENTRIES],
     i: usize,
     x: usize,
 ) -> [u32; RUN]
-    requires { ⌜ (n ≤ mostNodes) × (run ≤ mostPlaces) × (length (now points) ≡ pointsSize) × Low (narrow .modulus) (now points) × (x < n) ⌝ }
+    requires { ⌜ (n ≤ mostEntries) × (run ≤ mostPlaces) × (length (now points) ≡ pointsSize) × Low (narrow .modulus) (now points) × (x < n) ⌝ }
     ensures { λ out. ⌜ DifferenceRow n run (now (points .entry)) marked i x n out ⌝ }
 {
     let mut out = [1u32; RUN];
@@ -79,18 +105,18 @@ fn differences(
     out
 }
 
-// The rows of the multipliers of the listed nodes in node i.
-fn node_rows(
+// The rows of the multipliers of the listed entries in entry i.
+fn entry_rows(
     n: usize,
     run: usize,
     points: &[u32],
     list: &[usize],
-    marked: [bool; MOST_NODES],
+    marked: [bool; ENTRIES],
     i: usize,
     table: &mut [u16],
 )
-    requires { ⌜ (n ≤ mostNodes) × (run ≤ mostPlaces) × (length (now points) ≡ pointsSize) × Low (narrow .modulus) (now points) × (rising 0 n (now list) ≡ true) × (i < n) × (length (now table) ≡ tableSize) × (getD marked i false ≡ false) ⌝ }
-    ensures { λ _. ⌜ (length (now (table .exit)) ≡ length (now (table .entry))) × ((f : ℕ → ℕ) → PointRows n f run (now (points .entry)) → Marks n (now (list .entry)) marked → NodeRows n f run (now (list .entry)) i (length (now (list .entry))) (now (table .entry)) (now (table .exit))) ⌝ }
+    requires { ⌜ (n ≤ mostEntries) × (run ≤ mostPlaces) × (length (now points) ≡ pointsSize) × Low (narrow .modulus) (now points) × (rising 0 n (now list) ≡ true) × (i < n) × (length (now table) ≡ tableSize) × (getD marked i false ≡ false) × (n * length (now list) * mostPlaces ≤ tableSize) ⌝ }
+    ensures { λ _. ⌜ (length (now (table .exit)) ≡ length (now (table .entry))) × ((P : ℕ → List ℕ) → Columns n P → PointRows n P run (now (points .entry)) → Marks n (now (list .entry)) marked → RowsOver P run (now (list .entry)) i (length (now (list .entry))) (now (table .entry)) (now (table .exit))) ⌝ }
 {
     let k = list.len();
     let bottoms = differences(n, run, points, marked, i, i);
@@ -101,6 +127,29 @@ fn node_rows(
     }
 }
 
+// The rows of the multipliers in each entry below m that is not skipped.
+fn all_rows(
+    n: usize,
+    m: usize,
+    run: usize,
+    points: &[u32],
+    list: &[usize],
+    marked: [bool; ENTRIES],
+    skipped: [bool; ENTRIES],
+    table: &mut [u16],
+)
+    requires { ⌜ (n ≤ mostEntries) × (m ≤ n) × (run ≤ mostPlaces) × (length (now points) ≡ pointsSize) × Low (narrow .modulus) (now points) × (rising 0 n (now list) ≡ true) × (n * length (now list) * mostPlaces ≤ tableSize) ⌝ }
+    requires { ⌜ Marks n (now list) marked × ((i : ℕ) → i < m → getD skipped i false ≡ false → getD marked i false ≡ false) × (length (now table) ≡ tableSize) × Low (narrow .modulus) (now table) ⌝ }
+    ensures { λ _. ⌜ ((P : ℕ → List ℕ) → Columns n P → PointRows n P run (now (points .entry)) → TableOver P run (now (list .entry)) (λ i. getD skipped i false) m (now (table .exit))) ⌝ }
+{
+    for i in 0..m {
+        if skipped[i] {
+            continue;
+        }
+        entry_rows(n, run, points, list, marked, i, table);
+    }
+}
+
 // The multipliers at some a of the listed nodes in each node below m that is not listed.
 pub fn multipliers_at(
     n: usize,
@@ -108,19 +157,36 @@ pub fn multipliers_at(
     each: &[usize],
     run: usize,
     list: &[usize],
-    marked: [bool; MOST_NODES],
+    marked: [bool; ENTRIES],
     table: &mut [u16],
 )
     requires { ⌜ (n ≤ mostNodes) × (m ≤ n) × (run ≤ mostPlaces) × (run ≤ length (now each)) × (rising 0 n (now list) ≡ true) × Marks n (now list) marked × (length (now table) ≡ tableSize) × Low (narrow .modulus) (now table) ⌝ }
     ensures { λ _. ⌜ TableOf n (element (now (each .entry))) run (now (list .entry)) m (now (table .exit)) ⌝ }
 {
     let points = point_rows(n, each, run);
-    for i in 0..m {
-        if marked[i] {
-            continue;
-        }
-        node_rows(n, run, &points, list, marked, i, table);
-    }
+    all_rows(n, m, run, &points, list, marked, marked, table);
+}
+
+// The multipliers at some a of the listed nodes in the entries of a first step that are not skipped: the n nodes, and behind them one with
+// the opposite of node i's point.
+pub fn entry_multipliers(
+    n: usize,
+    i: usize,
+    each: &[usize],
+    run: usize,
+    list: &[usize],
+    marked: [bool; ENTRIES],
+    skipped: [bool; ENTRIES],
+    table: &mut [u16],
+)
+    requires { ⌜ (n ≤ mostNodes) × (i < n) × (run ≤ mostPlaces) × (run ≤ length (now each)) × (rising 0 (n + 1) (now list) ≡ true) × ((n + 1) * length (now list) * mostPlaces ≤ tableSize) ⌝ }
+    requires { ⌜ Marks (n + 1) (now list) marked × ((e : ℕ) → e < n + 1 → getD skipped e false ≡ false → getD marked e false ≡ false) × (length (now table) ≡ tableSize) × Low (narrow .modulus) (now table) ⌝ }
+    ensures { λ _. ⌜ TableOver (entryPoints n i (element (now (each .entry)))) run (now (list .entry)) (λ e. getD skipped e false) (n + 1) (now (table .exit)) ⌝ }
+{
+    let mut points = point_rows(n, each, run);
+    opposite_row(i, each, run, n * RUN, &mut points);
+    let m = n + 1;
+    all_rows(m, m, run, &points, list, marked, skipped, table);
 }
 
 // The multipliers at a, a + 1, ..
@@ -130,7 +196,7 @@ pub fn multipliers(
     a: usize,
     run: usize,
     list: &[usize],
-    marked: [bool; MOST_NODES],
+    marked: [bool; ENTRIES],
     table: &mut [u16],
 )
     requires { ⌜ (n ≤ mostNodes) × (m ≤ n) × (run ≤ mostPlaces) × (a + run ≤ 2 ^ mostNodes) × (rising 0 n (now list) ≡ true) × Marks n (now list) marked × (length (now table) ≡ tableSize) × Low (narrow .modulus) (now table) ⌝ }

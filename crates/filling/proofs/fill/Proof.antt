@@ -1,13 +1,14 @@
 -- `filling::fill` meets its contract. Assumes nothing.
 use mathlib.Core.Path.{sym}
 use mathlib.Core.Bool.{true≢false}
+use native.Mathlib.Omega.{arith}
 use Rattle.shape.proofs.Accepted.{shape-accepted}
 use borrow.Author.Needs.{needs}
 use Rattle.filling.proofs.fill.Statement.{statement}
 use Rattle.filling.proofs.fill.Tie as tie
 
 marks-requires : tie.Need-marks-requires
-marks-requires c κs = shape-accepted _ (c .before .before .pre .0) .n-high
+marks-requires c κs = omega (arith, shape-accepted _ (c .before .before .pre .0) .n-high)
 
 pays-requires : tie.Need-pays-requires
 pays-requires c κs = shape-accepted _ (c .before .before .before .pre .0) .n-high

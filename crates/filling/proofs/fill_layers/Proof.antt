@@ -13,7 +13,7 @@ use Rattle.filling.proofs.fill_layers.Statement.{statement}
 use Rattle.filling.proofs.fill_layers.Tie as tie
 
 abbrev Inv-loop : tie.InvT-loop
-Inv-loop a run list source marked few table nodes₀ n layers two layer₀ nodes layer = (layer ≤ layers) × Filled n (layers * 2 ^ n) list (InLayers n a run layer) nodes₀ nodes
+Inv-loop a run list source marked few table nodes₀ n layers two layer₀ nodes layer = (layer ≤ layers) × Filled n (layers * 2 ^ n) list (InLayers (2 ^ n) a run layer) nodes₀ nodes
 
 abbrev μ-loop : tie.MeasureT-loop
 μ-loop a run list source marked few table nodes₀ n layers two layer₀ nodes layer = layers - layer
@@ -87,7 +87,7 @@ returns c =
     let s = c .before .before .before .before .before .before .before .before .before .before .before .args in
     let m = c .before .before .before .before .run-multipliers .ensures in
     let e : l .layer ≡ s .s .layers = omega arith in
-    (m .long, m .low, subst (λ k. Filled (s .s .n) (s .s .layers * 2 ^ s .s .n) (s .list .now) (InLayers (s .s .n) (s .a) (s .run) k) (s .nodes .now) (l .nodes)) e (l .inv .1))
+    (m .long, m .low, subst (λ k. Filled (s .s .n) (s .s .layers * 2 ^ s .s .n) (s .list .now) (InLayers (2 ^ s .s .n) (s .a) (s .run) k) (s .nodes .now) (l .nodes)) e (l .inv .1))
 
 pub fill-layers-spec : {M : Type 1} → statement M
 fill-layers-spec =

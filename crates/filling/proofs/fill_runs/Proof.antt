@@ -19,7 +19,7 @@ use Rattle.filling.proofs.fill_runs.Tie as tie
 
 abbrev Inv-loop : tie.InvT-loop
 Inv-loop s list marked few source nodes₀ n two run table₀ block₀ block-end nodes table block = (block ≤ block-end) × (block-end ≡ two / run) × (length table ≡ tableSize) × Low (narrow .modulus) table
-    × Filled (s .n) (s .layers * 2 ^ s .n) list (Below (s .n) (block * run)) nodes₀ nodes
+    × Filled (s .n) (s .layers * 2 ^ s .n) list (Below (2 ^ s .n) (block * run)) nodes₀ nodes
 
 abbrev μ-loop : tie.MeasureT-loop
 μ-loop s list marked few source nodes₀ n two run table₀ block₀ block-end nodes table block = block-end - block

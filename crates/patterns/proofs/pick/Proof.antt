@@ -35,13 +35,13 @@ sub-last c = let a = c .before .before .before .before .before .args in omega (a
 
 loop-holds : tie.Need-loop-holds Inv-loop μ-loop
 loop-holds c =
-    let s = c .before .before .before .before .before in (search needs, table-none _ _ _ (s .pre .2) _ _ (s .pre .7) (s .pre .8))
+    let s = c .before .before .before .before .before in (search needs, table-none _ _ (s .pre .2) _ _ _ (s .pre .7) (s .pre .8))
 
 loop-again : tie.Need-loop-again Inv-loop μ-loop
 loop-again c =
     let l = c .before .before .loop in
     let s = c .before .before .before .before .before .before .before .before in
-    (search needs, table-skip _ _ _ (s .pre .2) _ (l .i) _ (l .inv .1) (sym (s .pre .5 .each (l .i) (omega arith)) ∙ c .if1 .taken))
+    (search needs, table-skip _ _ (s .pre .2) _ _ (l .i) _ (l .inv .1) (sym (s .pre .5 .each (l .i) (omega arith)) ∙ c .if1 .taken))
 
 pick-rows-requires : tie.Need-pick-rows-requires Inv-loop μ-loop
 pick-rows-requires c κs =
@@ -70,7 +70,7 @@ loop-again-2 c =
     let v = c .before .before .pick-rows .ensures in
     let able : Pickable _ _ _ _ _ _ _ _ _ =
     record { high = s .pre .0; inside = s .pre .1; low = s .pre .3; up = s .pre .4; marks = s .pre .5; picks-are = k .before .patterns-of .ensures .1; last-is = last-is k; held = s .pre .6 } in
-    (search needs, table-more _ _ _ (s .pre .2) _ (l .i) _ _ (v .0) (l .inv .1) (v .1 _ _ able (omega arith) (sym (s .pre .5 .each (l .i) (omega arith)) ∙ z .if1 .left)))
+    (search needs, table-more _ _ (s .pre .2) _ _ (l .i) _ _ (v .0) (l .inv .1) (v .1 _ _ able (omega arith) (sym (s .pre .5 .each (l .i) (omega arith)) ∙ z .if1 .left)))
 
 returns : tie.Need-returns Inv-loop μ-loop
 returns c =

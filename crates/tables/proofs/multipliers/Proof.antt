@@ -1,10 +1,11 @@
 -- `tables::multipliers` meets its contract. Assumes nothing.
-use mathlib.Core.Path.{_≡_, refl}
+use mathlib.Core.Path.{_≡_, refl, ap}
 use Prim.Native.Nat.{ℕ, _+_, _-_, _≤_, _<_}
 use native.Mathlib.Omega.{arith}
 use lib.ListN.{length, length-set}
 use Rattle.lists.specs.Lists.{element}
 use Rattle.lists.proofs.Stores.{stored-more}
+use Rattle.code.specs.Code.{narrow, points}
 use Rattle.rows.specs.Rows.{mostPlaces}
 use Rattle.tables.proofs.Tables.{table-same}
 use borrow.Author.Needs.{needs}
@@ -35,7 +36,7 @@ returns : tie.Need-returns Inv-loop μ-loop
 returns c =
     let l = c .before .before .before .before .before .before .loop in
     let s = c .before .before .before .before .before .before .before .before .before in
-    table-same _ _ _ (s .pre .2) _ (_+_ (s .args .a)) _ _ (λ t h. l .inv .2 t (omega arith)) (c .before .before .multipliers-at .ensures)
+    table-same _ _ (s .pre .2) _ _ _ _ _ _ (λ t h. ap (points narrow (s .args .n)) (l .inv .2 t (omega arith))) (λ i h e. e) (c .before .before .multipliers-at .ensures)
 
 pub multipliers-spec : {M : Type 1} → statement M
 multipliers-spec =

@@ -1,19 +1,19 @@
--- `tables::node_rows` meets its contract. Assumes nothing.
+-- `tables::entry_rows` meets its contract. Assumes nothing.
 use mathlib.Core.Path.{_≡_, refl, _∙_}
+use mathlib.Core.List.{List}
 use Prim.Native.Nat.{ℕ, _+_, _-_, _*_, _≤_}
 use native.Mathlib.Omega.{arith}
 use lib.ListN.{length}
 use Rattle.lists.proofs.Members.{rising-below}
-use Rattle.lists.proofs.Others.{rising-fits}
 use Rattle.rows.specs.Rows.{mostPlaces}
-use Rattle.tables.specs.Tables.{tableSize, PointRows, Marks, NodeRows}
-use Rattle.tables.proofs.Tables.{node-rows-none, node-rows-more, row-room}
+use Rattle.tables.specs.Tables.{tableSize, PointRows, Columns, Marks, RowsOver}
+use Rattle.tables.proofs.Tables.{rows-none, rows-more, entry-room}
 use borrow.Author.Needs.{needs}
-use Rattle.tables.proofs.node_rows.Statement.{statement}
-use Rattle.tables.proofs.node_rows.Tie as tie
+use Rattle.tables.proofs.entry_rows.Statement.{statement}
+use Rattle.tables.proofs.entry_rows.Tie as tie
 
 abbrev Inv-loop : tie.InvT-loop
-Inv-loop n run points list marked i table₀ k inverted j₀ table j = (j ≤ k) × (length table ≡ length table₀) × ((f : ℕ → ℕ) → PointRows n f run points → Marks n list marked → NodeRows n f run list i j table₀ table)
+Inv-loop n run points list marked i table₀ k inverted j₀ table j = (j ≤ k) × (length table ≡ length table₀) × ((P : ℕ → List ℕ) → Columns n P → PointRows n P run points → Marks n list marked → RowsOver P run list i j table₀ table)
 
 abbrev μ-loop : tie.MeasureT-loop
 μ-loop n run points list marked i table₀ k inverted j₀ table j = k - j
@@ -31,8 +31,8 @@ loop-holds c =
     let s = c .before .before .before .before .before in (
       search needs,
       refl,
-      λ f w v. node-rows-none _ _ (s .pre .0) (s .pre .1) _ _ _ (s .pre .4) _ (s .pre .5) (s .pre .7) _ _ (c .inverses .ensures .0) (c .before .differences .ensures)
-          (c .inverses .ensures .1) f w v _,
+      λ P col w v. rows-none _ _ (s .pre .1) _ _ _ (s .pre .4) _ (s .pre .5) (s .pre .7) _ _ (c .inverses .ensures .0) (c .before .differences .ensures)
+          (c .inverses .ensures .1) P col w v _,
     )
 
 differences-requires-2 : tie.Need-differences-requires-2 Inv-loop μ-loop
@@ -47,8 +47,7 @@ room : (c : tie.After-differences2 Inv-loop μ-loop) →
     (s .args .i * length (s .args .list .now) + c .before .before .before .loop .j) * mostPlaces + s .args .run ≤ tableSize
 room c =
     let s = c .before .before .before .before .before .before .before .before .before in
-    row-room (s .args .n) (length (s .args .list .now)) (s .args .i) (c .before .before .before .loop .j) (s .args .run) (s .pre .0)
-    (rising-fits (s .args .n) (s .args .list .now) (s .pre .4)) (s .pre .5) (omega arith) (s .pre .1)
+    entry-room (s .args .n) (length (s .args .list .now)) (s .args .i) (c .before .before .before .loop .j) (s .args .run) (s .pre .8) (s .pre .5) (omega arith) (s .pre .1)
 
 mul-quotients : tie.Need-mul-quotients Inv-loop μ-loop
 mul-quotients c =
@@ -80,8 +79,8 @@ loop-again c =
     let s = c .before .before .before .before .before .before .before .before .before .before .before .before .before in (
       search needs,
       c .before .before .quotients .ensures .long ∙ l .inv .1,
-      λ f w v. node-rows-more _ _ (s .pre .0) (s .pre .1) _ _ _ (s .pre .4) _ (s .pre .5) (s .pre .7) _ _ (c .before .before .before .before .before .before .before .before .inverses .ensures .0) (c .before .before .before .before .before .before .before .before .before .differences .ensures)
-          (c .before .before .before .before .before .before .before .before .inverses .ensures .1) f w v (l .j) _ _ _ _ (omega arith) (l .inv .2 f w v) (c .before .before .before .before .differences2 .ensures) (c .before .before .quotients .ensures),
+      λ P col w v. rows-more _ _ (s .pre .1) _ _ _ (s .pre .4) _ (s .pre .5) (s .pre .7) _ _ (c .before .before .before .before .before .before .before .before .inverses .ensures .0) (c .before .before .before .before .before .before .before .before .before .differences .ensures)
+          (c .before .before .before .before .before .before .before .before .inverses .ensures .1) P col w v (l .j) _ _ _ _ (omega arith) (l .inv .2 P col w v) (c .before .before .before .before .differences2 .ensures) (c .before .before .quotients .ensures),
     )
 
 returns : tie.Need-returns Inv-loop μ-loop
@@ -91,8 +90,8 @@ returns c =
     let e : l .j ≡ length (s .args .list .now) = omega arith in
     rw (← e) (l .inv .1, l .inv .2)
 
-pub node-rows-spec : {M : Type 1} → statement M
-node-rows-spec =
+pub entry-rows-spec : {M : Type 1} → statement M
+entry-rows-spec =
     tie.close
     (tie.spec
     Inv-loop
