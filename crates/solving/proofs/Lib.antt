@@ -1,4 +1,5 @@
--- Laws of what a new node solves and hands out, lowest first.
+-- Laws of what a new node works out and hands out, lowest first.
 pub mod Slots
-pub mod Solving
+pub mod Puts
+pub mod Entries
 pub mod Sending

@@ -1,89 +1,82 @@
--- A first step, sum by sum: the own pairs and the messages handed out so far.
+-- At the end of a first step: the own pairs, and the messages of sums.
 use mathlib.Core.Path.{_≡_, refl, sym, ap, ap₂, _∙_}
 use mathlib.Core.Logic.{_≢_, _⊎_, inl, inr}
-use mathlib.Core.Bool.{Bool, false}
-use mathlib.Core.List.{List, [], _∷_, _++_, append-assoc}
-use Prim.Native.Nat.{ℕ, _+_, _*_, _-_, _/_, _%_, _≤_, _<_}
+use mathlib.Core.Bool.{Bool, true, false}
+use mathlib.Core.List.{List}
+use Prim.Native.Nat.{ℕ, zero, suc, _+_, _*_, _-_, _/_, _%_, _≤_, _<_}
 use native.Mathlib.Decide.{ℕ-discrete}
 use native.Mathlib.Omega.{arith}
-use lib.ListN.{length, getD, set, length-append}
+use lib.ListN.{length, getD}
 use lib.Seq.{ext-getD}
-use Rattle.lists.specs.Lists.{element, flat}
+use Rattle.lists.specs.Lists.{flat}
+use Rattle.lists.specs.Sums.{sum}
 use Rattle.lists.proofs.Tests.{cond-below, cond-beyond, below-or-not}
-use Rattle.lists.proofs.Flats.{flat-length, flat-at, flat-more, flat-none}
+use Rattle.lists.proofs.Flats.{flat-length, flat-at}
 use Rattle.lists.proofs.Places.{place-of}
 use Rattle.lists.proofs.Tables.{tabulate-at}
-use Rattle.lists.proofs.Buffers.{onto, onto-none, onto-more, onto-end}
 use Rattle.shape.specs.declared.Shape.{Shape}
 use Rattle.code.specs.Code.{narrow}
+use Rattle.rows.specs.Rows.{mostPlaces, Stored, remainder}
+use Rattle.filling.specs.Filling.{term, Summed, InRun}
 use Rattle.classes.specs.Classes.{node, messageSize}
 use Rattle.classes.specs.Steps.{place, otherRank, solved, ownPair, ownPairs, exchangeAt, exchange, exchangeTo, exchanges}
-use Rattle.solving.specs.Solving.{Told, Helped, slotOf, HandedOut}
-use Rattle.classes.proofs.Dead.{Dead, node-below}
-use Rattle.classes.proofs.FirstStep.{exchange-length}
+use Rattle.solving.specs.Solving.{slotOf, rowSum, Put, Other, slotPlace, handedSum, handed, HandedOut, ownEntry, own, Owned, pairPlace}
+use Rattle.classes.proofs.FirstStep.{exchange-length, pairs-at}
 use Rattle.solving.proofs.Slots.{slot-symbol-own}
+use Rattle.solving.proofs.Puts.{put-more, put-stored}
 
--- at each sum
-pub helped-told : (s : Shape) (dead helpers : List ℕ) (u : ℕ) (messages : List ℕ) → Helped s dead helpers u messages → (x : ℕ) → x < messageSize s dead → Told s dead helpers u messages x
-helped-told s dead helpers u messages H x h = record { rises = H .rises; count = H .count; rank = H .rank; long = H .long; number = h; below = λ j k. H .below j x k h }
+-- no two symbols have one place
+pub slots-apart : (all : Bool) (h u size : ℕ) → u < h → (v x w y : ℕ) → (v < h) × (v ≡ u → ⊥) → (w < h) × (w ≡ u → ⊥) → x < size → y < size
+    → slotPlace all h u size v x ≡ slotPlace all h u size w y → (v ≡ w) × (x ≡ y)
+unfolding slotPlace
+slots-apart all h u size l v x w y a b k m e = slot-symbol-own h u l all size v x w y (a .0) (b .0) (a .1) (b .1) k m e
 
--- ---- the own pairs
+pub pairs-apart : (e x d y : ℕ) → e < 2 → d < 2 → pairPlace e x ≡ pairPlace d y → (e ≡ d) × (x ≡ y)
+unfolding pairPlace
+pairs-apart e x d y h l q = (omega arith, omega arith)
+
+-- one rank's row more
+pub handed-more : (dead helpers table sent : List ℕ) (u : ℕ) (all : Bool) (first run share v : ℕ) (old now after sums : List ℕ) → u < length dead → v < length dead → v ≢ u
+    → first + run ≤ share → Put (Other (length dead) u) share (slotPlace all (length dead) u share) (handedSum dead helpers table sent first) (λ w x. (w < v) × InRun first run x) old now
+    → Summed run mostPlaces 0 helpers table (getD dead v 0 * length helpers) sent (length helpers) sums
+    → Stored (slotOf all (length dead) u v * share + first) run (remainder (narrow .modulus) sums) now after
+    → Put (Other (length dead) u) share (slotPlace all (length dead) u share) (handedSum dead helpers table sent first) (λ w x. (w < v + 1) × InRun first run x) old after
+unfolding slotPlace handedSum rowSum remainder node
+handed-more dead helpers table sent u all first run share v old now after sums l k d room so-far summed put =
+    put-more _ _ _ _ (slots-apart all (length dead) u share l) _ _ _ old now after so-far
+    (put-stored _ _ _ _ v first run (k, d) room now after _ _ put (λ t h. omega arith) (λ t h. ap (λ z. z % narrow .modulus) (summed .each-sum t h) ∙ ap (λ z. sum (length helpers) (term table (getD dead v 0 * length helpers) helpers mostPlaces 0 sent z) % narrow .modulus) (let z : t ≡ first + t - first = omega arith in z)))
+    (λ w x a h m. split w x m (ℕ-discrete w v)) (λ w x a h m. (omega (arith, m .0), m .1)) (λ w x a h m. (omega (arith, m .0), m .1))
+  where
+    split : (w x : ℕ) → (w < v + 1) × InRun first run x → Dec (w ≡ v)
+        → ((w ≡ v) × InRun first run x) ⊎ (((w < v) × InRun first run x) × ((w ≡ v) × InRun first run x → ⊥))
+    split w x m (yes e) = inl (e, m .1)
+    split w x m (no e) = inr ((omega (arith, m .0), m .1), λ z. e (z .0))
 
 module _ (s : Shape) (dead helpers : List ℕ) (u : ℕ) (messages : List ℕ) where
-  abbrev pair : ℕ → List ℕ
-  pair = ownPair narrow s dead helpers u messages
+  -- the own pair of a sum
+  pub own-pair : (e x : ℕ) → e < 2 → getD (ownPair narrow s dead helpers u messages x) e 0 ≡ own s dead helpers u messages e x
+  unfolding ownPair own ownEntry exchangeAt
+  own-pair zero x h = refl
+  own-pair (suc zero) x h = refl
+  own-pair (suc (suc e)) x h = absurd (omega arith)
 
-  pair-length : (x : ℕ) → length (pair x) ≡ 2
-  unfolding ownPair
-  pair-length x = refl
-
-  pub pairs-none : (old : List ℕ) → old ≡ onto (flat 0 (ownPair narrow s dead helpers u messages)) old
-  pairs-none old = onto-none old ∙ ap (λ z. onto z old) (sym (flat-none pair))
-
-  pub pairs-more : (x : ℕ) (old now : List ℕ) (v w : ℕ) → now ≡ onto (flat x (ownPair narrow s dead helpers u messages)) old → x * 2 + 1 < length old
-      → v ≡ getD (solved narrow s dead helpers u messages x) (node dead u) 0 → w ≡ getD (solved narrow s dead helpers u messages x) (s .n) 0
-      → set (set now (x * 2) v) (x * 2 + 1) w ≡ onto (flat (x + 1) (ownPair narrow s dead helpers u messages)) old
-  unfolding ownPair
-  pairs-more x old now v w e room q r =
-      let long : length (flat x pair) ≡ x * 2 = flat-length 2 pair x (λ i l. pair-length i) in
-      ap (λ z. set (set z (x * 2) v) (x * 2 + 1) w) e
-      ∙ ap (λ z. set z (x * 2 + 1) w) (onto-more (flat x pair) old (x * 2) v (sym long) (omega arith))
-      ∙ onto-more (flat x pair ++ v ∷ []) old (x * 2 + 1) w (omega (arith, long, length-append (flat x pair) (v ∷ []))) room
-      ∙ ap (λ z. onto z old) (append-assoc (flat x pair) (v ∷ []) (w ∷ []) ∙ ap₂ (λ y z. flat x pair ++ y ∷ z ∷ []) q r ∙ sym (flat-more x pair))
-
-  pub pairs-end : (x : ℕ) (old now : List ℕ) → now ≡ onto (flat x (ownPair narrow s dead helpers u messages)) old → x ≡ messageSize s dead → length old ≡ 2 * messageSize s dead
-      → now ≡ ownPairs narrow s dead helpers u messages
-  unfolding ownPairs
-  pairs-end x old now e q long =
-      e ∙ onto-end (flat x pair) old (flat-length 2 pair x (λ i l. pair-length i) ∙ omega arith) ∙ ap (λ z. flat z pair) q
-
-  -- ---- the messages of sums
-
-  -- symbols below x of the message to each other rank are handed out
-  pub record Sending (all : Bool) (x : ℕ) (old now : List ℕ) : Type 0 where
-    pub long : length now ≡ length old
-    pub each : (v y : ℕ) → v < length dead → v ≢ u → y < x → y < messageSize s dead
-        → getD now (slotOf all (length dead) u v * messageSize s dead + y) 0 ≡ getD (solved narrow s dead helpers u messages y) (node dead v) 0
-    pub rest : (z : ℕ) → ((v y : ℕ) → v < length dead → v ≢ u → y < messageSize s dead → slotOf all (length dead) u v * messageSize s dead + y ≢ z) → getD now z 0 ≡ getD old z 0
-
-  pub sending-none : (all : Bool) (old : List ℕ) → Sending all 0 old old
-  sending-none all old = record { long = refl; each = λ v y h d l. absurd (omega arith); rest = λ z h. refl }
-
-  pub sending-more : Dead s dead → u < length dead → (all : Bool) (x : ℕ) (old now after entries : List ℕ) → x < messageSize s dead → Sending all x old now
-      → HandedOut s dead u all x entries now after → ((i : ℕ) → i < s .n + 1 → element entries i ≡ getD (solved narrow s dead helpers u messages x) i 0) → Sending all (x + 1) old after
-  sending-more D l all x old now after entries k S H f = record {
-    long = H .long ∙ S .long;
-    each = λ v y h d m n. go v y h d m n (ℕ-discrete y x);
-    rest = λ z h. H .rest z (λ v m d. h v x m d k) ∙ S .rest z h;
-  }
+  pub pairs-end : (Done : ℕ → Type 0) (old now : List ℕ) → ((x : ℕ) → x < messageSize s dead → Done x) → Owned s dead helpers u messages pairPlace Done old now
+      → length old ≡ 2 * messageSize s dead → now ≡ ownPairs narrow s dead helpers u messages
+  unfolding pairPlace ownPairs ownPair
+  pairs-end Done old now all w long =
+      ext-getD 0 now (ownPairs narrow s dead helpers u messages) (w .long ∙ long ∙ sym width) each
     where
-      go : (v y : ℕ) → v < length dead → v ≢ u → y < x + 1 → y < messageSize s dead → Dec (y ≡ x)
-          → getD after (slotOf all (length dead) u v * messageSize s dead + y) 0 ≡ getD (solved narrow s dead helpers u messages y) (node dead v) 0
-      go v y h d m n (yes e) = rw e (H .each v h d ∙ f (node dead v) (omega (arith, node-below D v h)))
-      go v y h d m n (no e) =
-          H .rest (slotOf all (length dead) u v * messageSize s dead + y)
-          (λ w p q z. e (sym (slot-symbol-own (length dead) u l all (messageSize s dead) w x v y p h q d k n z .1)))
-          ∙ S .each v y h d (omega arith) n
+      M : ℕ
+      M = messageSize s dead
+
+      width : length (ownPairs narrow s dead helpers u messages) ≡ 2 * M
+      width = flat-length 2 (ownPair narrow s dead helpers u messages) M (λ i l. refl) ∙ omega arith
+
+      each : (i : ℕ) → i < length now → getD now i 0 ≡ getD (ownPairs narrow s dead helpers u messages) i 0
+      each i h =
+          let p = place-of M 2 i (omega (arith, w .long)) in
+          ap (λ z. getD now z 0) (sym (p .whole)) ∙ w .each (i % 2) (i / 2) (p .place) (p .row) (all (i / 2) (p .row)) ∙ sym (own-pair (i % 2) (i / 2) (p .place))
+          ∙ sym (pairs-at narrow s dead helpers u messages (i / 2) (i % 2) (p .row) (p .place)) ∙ ap (λ z. getD (ownPairs narrow s dead helpers u messages) z 0) (p .whole)
 
   -- the j-th of the other ranks
   pub other-is : (h j : ℕ) → u < h → j < h - 1 → (otherRank u j < h) × (otherRank u j ≢ u) × (place u (otherRank u j) ≡ j)
@@ -94,10 +87,10 @@ module _ (s : Shape) (dead helpers : List ℕ) (u : ℕ) (messages : List ℕ) w
       go (inl b) = let e = cond-below j (j + 1) j u b in rw e (omega arith, λ z. omega arith, cond-below j (j - 1) j u b)
       go (inr b) = let e = cond-beyond j (j + 1) j u b in rw e (omega arith, λ z. omega arith, cond-beyond (j + 1) (j + 1 - 1) (j + 1) u (omega arith) ∙ omega arith)
 
-  pub sent-end : u < length dead → (x : ℕ) (old now : List ℕ) → Sending false x old now → x ≡ messageSize s dead → length old ≡ (length dead - 1) * messageSize s dead
-      → now ≡ exchanges narrow s dead helpers u messages
-  unfolding exchanges exchangeTo exchange exchangeAt slotOf
-  sent-end l x old now S q long =
+  pub sent-end : u < length dead → (Done : ℕ → Type 0) (old now : List ℕ) → ((x : ℕ) → x < messageSize s dead → Done x) → HandedOut s dead helpers u messages false Done old now
+      → length old ≡ (length dead - 1) * messageSize s dead → now ≡ exchanges narrow s dead helpers u messages
+  unfolding exchanges exchangeTo exchange exchangeAt slotOf slotPlace handed
+  sent-end l Done old now all S long =
       ext-getD 0 now (exchanges narrow s dead helpers u messages) (S .long ∙ long ∙ sym width) each
     where
       M : ℕ
@@ -118,7 +111,7 @@ module _ (s : Shape) (dead helpers : List ℕ) (u : ℕ) (messages : List ℕ) w
           let o = other-is (length dead) (i / M) l (w .row) in
           ap (λ z. getD now z 0) (sym (w .whole))
           ∙ ap (λ z. getD now (z * M + (i % M)) 0) (sym (o .2))
-          ∙ S .each (otherRank u (i / M)) (i % M) (o .0) (o .1) (omega (arith, w .place)) (w .place)
+          ∙ S .each (otherRank u (i / M)) (i % M) (o .0, o .1) (w .place) (all (i % M) (w .place))
           ∙ sym (tabulate-at M (exchangeAt narrow s dead helpers u messages (node dead (otherRank u (i / M)))) (i % M) 0 (w .place))
           ∙ sym (flat-at M to (length dead - 1) sized (i / M) (i % M) 0 (w .row) (w .place))
           ∙ ap (λ z. getD (exchanges narrow s dead helpers u messages) z 0) (w .whole)

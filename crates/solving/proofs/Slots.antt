@@ -1,20 +1,13 @@
--- Which message is whose among those that new nodes hand out; and the points of a first step's entries.
+-- Which message is whose among those that new nodes hand out.
 use mathlib.Core.Path.{_≡_, sym, ap, ap₂, _∙_}
-use mathlib.Core.Logic.{_≢_, _⊎_, inl, inr}
+use mathlib.Core.Logic.{_≢_}
 use mathlib.Core.Bool.{Bool, true, false}
-use mathlib.Core.List.{List}
 use Prim.Native.Nat.{ℕ, _+_, _*_, _-_, _/_, _%_, _≤_, _<_}
 use native.Mathlib.Nat.{mul-le-mul}
 use native.Mathlib.Omega.{arith}
 use lib.Arith.{digits-lt, digits-div, digits-mod}
-use lib.ListN.{length, getD, set, take, length-set}
-use lib.Seq.{ext-getD, getD-take, getD-set-same, getD-set-other, length-take-le}
-use Rattle.lists.proofs.Tests.{below-or-not}
-use Rattle.column.specs.Solving.{mostEntries}
-use Rattle.code.specs.Code.{narrow, point, morePoints}
-use Rattle.code.proofs.NodePoints.{more-length, more-at, more-behind}
 use Rattle.classes.specs.Steps.{place, otherRank}
-use Rattle.solving.specs.Solving.{MorePoints, slotOf, slots}
+use Rattle.solving.specs.Solving.{slotOf, slots}
 use Rattle.classes.proofs.Placing.{place-below, other-place}
 
 module _ (h u : ℕ) (l : u < h) where
@@ -58,22 +51,3 @@ pub slots-few : (all : Bool) (h : ℕ) → h ≤ 12 → slots all h ≤ 144
 unfolding slots
 slots-few true h l = mul-le-mul {n₂ = 12} {m₂ = 12} l (omega arith)
 slots-few false h l = omega arith
-
--- the points of the n + 1 entries, the last stored behind the others
-pub more-points : (n a i : ℕ) (out : List ℕ) (v : ℕ) → length out ≡ mostEntries → n < mostEntries → i < n
-    → ((k : ℕ) → k < n → getD out k 0 ≡ point narrow a k) → v ≡ narrow .modulus - point narrow a i → MorePoints n a i (set out n v)
-more-points n a i out v e h l each q = record {
-  long = length-set out n v ∙ e;
-  whole = ext-getD 0 (take (n + 1) (set out n v)) (morePoints narrow n a i) (long ∙ sym (more-length narrow n a i ∙ omega arith)) (λ k m. go k (omega (arith, long)) (below-or-not k n));
-}
-  where
-    long : length (take (n + 1) (set out n v)) ≡ n + 1
-    long = length-take-le (n + 1) (set out n v) (rw (length-set out n v) (omega (arith, e)))
-
-    go : (k : ℕ) → k < n + 1 → (k < n) ⊎ (n ≤ k) → getD (take (n + 1) (set out n v)) k 0 ≡ getD (morePoints narrow n a i) k 0
-    go k m (inl b) =
-        getD-take (n + 1) (set out n v) k 0 m ∙ getD-set-other out n k v 0 (λ z. omega arith) ∙ each k b ∙ sym (more-at narrow n a i k b)
-    go k m (inr b) =
-        let z : k ≡ n = omega arith in
-        getD-take (n + 1) (set out n v) k 0 m ∙ ap (λ y. getD (set out n v) y 0) z ∙ getD-set-same out n v 0 (omega (arith, e)) ∙ q
-        ∙ sym (ap (λ y. getD (morePoints narrow n a i) y 0) z ∙ more-behind narrow n a i l)

@@ -1,126 +1,98 @@
--- `solving::hand_out` meets its contract: the symbols of the ranks passed stand at their places. Assumes nothing.
-use mathlib.Core.Path.{_≡_, refl, ap}
-use mathlib.Core.Bool.{Bool, not}
+-- `solving::hand_out` meets its contract: the sums of the ranks passed stand at their places. Assumes nothing.
+use mathlib.Core.Path.{_≡_, refl, sym, ap, _∙_}
 use mathlib.Core.List.{List}
 use Prim.Native.Nat.{ℕ, _+_, _-_, _*_, _≤_, _<_}
-use native.Mathlib.Nat.{mul-le-mul}
+use native.Mathlib.Nat.{mul-le-mul, mul-le-mul-right}
 use native.Mathlib.Omega.{arith}
 use borrow.Author.Needs.{needs}
-use borrow.Author.Tests.{eq-eqb, ne-eqb, eqb-false, not-true}
-use lib.Arith.{digits-lt}
-use lib.Dec.{eqb}
 use lib.ListN.{length, getD}
-use Rattle.lists.specs.Lists.{element}
-use Rattle.lists.proofs.Scatters.{Scattered, scattered-none, scattered-skip, scattered-more}
+use Rattle.rows.specs.Rows.{mostPlaces}
+use Rattle.filling.specs.Filling.{InRun, Summable}
 use Rattle.classes.specs.Classes.{node, messageSize}
-use Rattle.solving.specs.Solving.{slotOf}
-use Rattle.classes.proofs.Layouts.{bounded, share-high, node-high}
-use Rattle.solving.proofs.Slots.{slot-symbol-own, slots-few}
+use Rattle.classes.proofs.Layouts.{bounded, share-high}
+use Rattle.solving.specs.Solving.{slots, Put, Other, slotPlace, handedSum}
+use Rattle.solving.proofs.Slots.{slots-few}
+use Rattle.solving.proofs.Puts.{put-none, put-same}
+use Rattle.solving.proofs.Sending.{handed-more}
 use Rattle.solving.proofs.hand_out.Statement.{statement}
 use Rattle.solving.proofs.hand_out.Tie as tie
 
--- where symbol x of the message to rank v stands, and what it is; whether a rank is another one
-slotAt : Bool → ℕ → ℕ → ℕ → ℕ → ℕ → ℕ
-slotAt all h u share x v = slotOf all h u v * share + x
-
-entryOf : List ℕ → List ℕ → ℕ → ℕ
-entryOf dead entries v = element entries (node dead v)
-
-another : ℕ → ℕ → Bool
-another u v = not (eqb v u)
-
 abbrev Inv-loop : tie.InvT-loop
-Inv-loop dead u all x out₀ entries share h v₀ out v =
-    (v ≤ h) × Scattered (slotAt all h u share x) (entryOf dead entries) (another u) v out₀ out
+Inv-loop dead helpers u all first run table sent out₀ share h k v₀ out v =
+    (v ≤ h) × Put (Other h u) share (slotPlace all h u share) (handedSum dead helpers table sent first) (λ w x. (w < v) × InRun first run x) out₀ out
 
 abbrev μ-loop : tie.MeasureT-loop
-μ-loop dead u all x out₀ entries share h v₀ out v = h - v
+μ-loop dead helpers u all first run table sent out₀ share h k v₀ out v = h - v
 
 loop-holds : tie.Need-loop-holds Inv-loop μ-loop
-loop-holds c = (omega arith, scattered-none _ _ _ _)
+loop-holds c = (omega arith, put-none _ _ _ _ _ _ (λ e x k h d. omega (arith, d .0)))
 
 loop-again : tie.Need-loop-again Inv-loop μ-loop
-unfolding another
 loop-again c =
     let l = c .before .before .loop in
-    (omega arith, scattered-skip _ _ _ _ _ _ (l .inv .1) (ap not (eq-eqb _ _ (c .if1 .taken))))
+    let e : l .v ≡ c .before .before .before .before .before .before .before .before .args .u = c .if1 .taken in (
+      omega arith,
+      put-same _ _ _ _ _ _ _ _ _ (λ w x k h d. let z : w < l .v = omega (arith, d .0, k .1, e) in (z, d .1)) (λ w x k h d. let z : w < l .v + 1 = omega (arith, d .0) in (z, d .1)) (λ w x k h d. refl) (l .inv .1),
+    )
+
+-- what a rank's row is made of
+able : (c : tie.Else1 Inv-loop μ-loop) →
+    let a = c .before .before .before .before .before .before .before .before .args in
+    Summable (a .run) mostPlaces 0 (a .helpers .now) (a .table .now) (getD (a .dead .now) (c .before .before .loop .v) 0 * length (a .helpers .now)) (a .sent .now)
+unfolding node
+able c = c .before .before .before .before .before .before .before .before .pre .0 .4 (c .before .before .loop .v) (omega arith)
+
+mul-sum-row-2 : tie.Need-mul-sum-row-2 Inv-loop μ-loop
+mul-sum-row-2 c = omega (arith, able (c .before) .room)
+
+sum-row-requires : tie.Need-sum-row-requires Inv-loop μ-loop
+sum-row-requires c κs = able (c .before)
 
 slot-requires : tie.Need-slot-requires Inv-loop μ-loop
-slot-requires c κs =
-    let p = c .before .before .before .before .before .pre .0 in
-    (p .1, omega arith, c .if1 .left, omega (arith, bounded (p .0) .dead-high))
+slot-requires c κs = let p = c .before .before .before .before .before .before .before .before .before .before .pre .0 in (p .1, omega arith, c .before .before .if1 .left, omega (arith, bounded (p .0) .dead-high))
 
--- the place is within the buffer
+-- the row lies in the buffer
 within : (c : tie.After-slot Inv-loop μ-loop) →
-    let a = c .before .before .before .before .before .before .args in
-    (c .slot .result * a .g .share + a .x < length (a .out .now)) × (length (a .out .now) ≤ 8847360) × (a .g .share ≡ messageSize (a .g .shape) (a .dead .now))
+    let a = c .before .before .before .before .before .before .before .before .before .before .before .args in
+    (c .slot .result * a .g .share + a .first + a .run ≤ length (a .out .now)) × (length (a .out .now) ≤ 8847360) × (a .g .share ≡ messageSize (a .g .shape) (a .dead .now))
 within c =
-    let st = c .before .before .before .before .before .before in
+    let st = c .before .before .before .before .before .before .before .before .before .before .before in
     let a = st .args in
     let p = st .pre .0 in
     let e = p .0 .share-is in
-    let k : a .x < a .g .share = rw e (p .2) in (
-      rw (st .pre .1 .1, ← e) (digits-lt (c .slot .ensures .0) k),
-      rw (st .pre .1 .1) (mul-le-mul {n₂ = 144} {m₂ = 61440} (slots-few _ _ (omega (arith, bounded (p .0) .dead-high))) (share-high (p .0))),
+    let M = messageSize (a .g .shape) (a .dead .now) in (
+      rw (e, st .pre .1) (omega (arith, p .3, mul-le-mul-right M (let z : c .slot .result + 1 ≤ slots (a .all) (length (a .dead .now)) = omega (arith, c .slot .ensures .0) in z))),
+      rw (st .pre .1) (mul-le-mul {n₂ = 144} {m₂ = 61440} (slots-few _ _ (omega (arith, bounded (p .0) .dead-high))) (share-high (p .0))),
       e,
     )
 
-mul-at : tie.Need-mul-at Inv-loop μ-loop
-mul-at c = omega (arith, within c)
+mul-store : tie.Need-mul-store Inv-loop μ-loop
+mul-store c = omega (arith, within (c))
 
-add-at : tie.Need-add-at Inv-loop μ-loop
-add-at c = omega (arith, within c)
+add-store : tie.Need-add-store Inv-loop μ-loop
+add-store c = omega (arith, within (c))
 
--- the rank's node
-high : (c : tie.After-shared-slice-known2 Inv-loop μ-loop) → let a = c .before .before .before .before .before .before .before .args in (getD (a .dead .now) (c .before .before .before .before .loop .v) 0 < a .g .shape .n) × (getD (a .dead .now) (c .before .before .before .before .loop .v) 0 < 12)
-unfolding node
-high c = node-high (c .before .before .before .before .before .before .before .pre .0 .0) (c .before .before .before .before .loop .v) (omega arith)
-
-array-read-out : tie.Need-array-read-out Inv-loop μ-loop
-array-read-out c = omega (arith, high c)
-
-mul-out-2 : tie.Need-mul-out-2 Inv-loop μ-loop
-mul-out-2 c = omega (arith, high c)
-
-cast-out : tie.Need-cast-out Inv-loop μ-loop
-cast-out c =
-    let st = c .before .before .before .before .before .before .before in
-    omega (arith, st .pre .1 .0 (getD (st .args .dead .now) (c .before .before .before .before .loop .v) 0) (omega (arith, high c)))
-
-mul-out-3 : tie.Need-mul-out-3 Inv-loop μ-loop
-mul-out-3 c = omega (arith, within (c .before))
-
-slice-write-out : tie.Need-slice-write-out Inv-loop μ-loop
-slice-write-out c = omega (arith, within (c .before), c .before .before .before .before .loop .inv .1 .long)
+store-requires : tie.Need-store-requires Inv-loop μ-loop
+store-requires c κs = (omega arith, omega arith, c .before .before .before .before .before .before .before .before .before .before .before .before .pre .0 .2, omega (arith, within (c .before), c .before .before .before .before .before .before .loop .inv .1 .long))
 
 loop-again-2 : tie.Need-loop-again-2 Inv-loop μ-loop
-unfolding another slotAt entryOf node
 loop-again-2 c =
-    let st = c .before .before .before .before .before .before .before in
-    let a = st .args in
-    let l = c .before .before .before .before .loop in
-    let p = st .pre .0 in
-    let w = within (c .before) in
-    let e = c .before .slot .ensures .1 in (
+    let l = c .before .before .before .before .before .before .before .before .before .loop in
+    let a = c .before .before .before .before .before .before .before .before .before .before .before .before .before .before .before .args in
+    let p = c .before .before .before .before .before .before .before .before .before .before .before .before .before .before .before .pre .0 in (
       omega arith,
-      rw e
-          (scattered-more _ _ _ _ _ _ (l .inv .1) _ (rw (← e) (w .0)) refl (ap not (ne-eqb _ _ (c .before .before .if1 .left)))
-          (λ i h t z.
-          let q = slot-symbol-own (length (a .dead .now)) (a .u) (p .1) (a .all) (a .g .share) i (a .x) (l .v) (a .x) (omega arith) (omega arith) (eqb-false i (a .u) (not-true _ t)) (c .before .before .if1 .left) (rw (w .2) (p .2)) (rw (w .2) (p .2)) z .0 in
-          omega arith)),
+      handed-more (a .dead .now) (a .helpers .now) (a .table .now) (a .sent .now) (a .u) (a .all) (a .first) (a .run) (a .g .share) (l .v) _ (l .out) _ _ (p .1) (omega arith) (c .before .before .before .before .before .before .before .if1 .left)
+          (rw (p .0 .share-is) (p .3)) (l .inv .1) (c .before .before .before .before .before .sum-row .ensures) (rw (c .before .before .before .before .slot .ensures .1) at (c .before .before .store .ensures)),
     )
 
+same-length : tie.Need-same-length Inv-loop μ-loop
+same-length c = c .before .loop .inv .1 .long
+
 returns : tie.Need-returns Inv-loop μ-loop
-unfolding another slotAt entryOf
 returns c =
-    let st = c .before .before .before .before in
     let l = c .before .loop in
-    let S = l .inv .1 in
-    record {
-      long = S .long;
-      each = λ v h d. rw (← (st .pre .0 .0 .share-is)) (S .hit v (omega arith) (ap not (ne-eqb v _ d)));
-      rest = λ y h. S .rest y (λ i k t z. h i (omega arith) (eqb-false i _ (not-true _ t)) (rw (st .pre .0 .0 .share-is) at z));
-    }
+    let p = c .before .before .before .before .before .before .before .pre .0 in
+    rw (← (p .0 .share-is)) (put-same _ _ _ _ _ _ _ _ _ (λ w x k h d. (omega (arith, k .0), d)) (λ w x k h d. d .1) (λ w x k h d. refl) (l .inv .1))
 
 pub hand-out-spec : {M : Type 1} → statement M
 hand-out-spec =
@@ -132,18 +104,16 @@ hand-out-spec =
     (λ c. search needs)
     (λ c. search needs)
     loop-again
+    (λ c. search needs)
+    (λ c. search needs)
+    mul-sum-row-2
+    sum-row-requires
     slot-requires
-    mul-at
-    add-at
-    (λ c. search needs)
-    (λ c. search needs)
-    mul-out-2
-    array-read-out
-    cast-out
-    mul-out-3
-    slice-write-out
+    mul-store
+    add-store
+    store-requires
     (λ c. search needs)
     (λ c. search needs)
     loop-again-2
-    (λ c. search needs)
+    same-length
     returns)
