@@ -78,7 +78,6 @@ pub record Spread (run base : ℕ) (at : List ℕ) (f : ℕ → ℕ) (before aft
 
 -- places that lie in a buffer and differ
 pub record Places (run base : ℕ) (at : List ℕ) (size : ℕ) : Type 0 where
-  pub long : length at ≡ mostPlaces
   pub inside : (t : ℕ) → t < run → base + element at t < size
   pub apart : (t v : ℕ) → t < run → v < run → element at t ≡ element at v → t ≡ v
 

@@ -19,7 +19,7 @@ use Rattle.classes.specs.declared.Layout.{Layout}
 use Rattle.classes.specs.Classes.{messageSize}
 use Rattle.classes.specs.Layout.{Ready}
 use Rattle.classes.specs.Whole.{fromHelper, fromHelpers}
-use Rattle.solving.specs.Solving.{HandedOut}
+use Rattle.solving.specs.Solving.{Put}
 use Rattle.wiring.specs.Wires.{inward, inwards, toRank, fromOthers}
 use Rattle.classes.proofs.Dead.{Dead}
 use Rattle.classes.proofs.FirstStep.{message-length}
@@ -67,11 +67,11 @@ wire-room {dead} {g} R told u e l =
       small = t;
     }
 
--- what was handed out into the part of the wire behind the helpers' messages
-pub tail-handed : (s : Shape) (dead : List ℕ) (u x b : ℕ) (entries l p : List ℕ) → b ≡ inwards s dead → b ≤ length l
-    → HandedOut s dead u true x entries (take (length l - b) (drop b l)) p
-    → HandedOut s dead u true x entries (drop (inwards s dead) l) (drop (inwards s dead) (putMid b (length l - b) l p))
-tail-handed s dead u x b entries l p e h H =
+-- the part of the wire behind the helpers' messages was lent, and came back as p
+pub tail-put : {Kind : ℕ → Type 0} {size : ℕ} {place value : ℕ → ℕ → ℕ} {Done : ℕ → ℕ → Type 0} (s : Shape) (dead : List ℕ) (b : ℕ) (l p : List ℕ) → b ≡ inwards s dead → b ≤ length l
+    → Put Kind size place value Done (take (length l - b) (drop b l)) p
+    → Put Kind size place value Done (drop (inwards s dead) l) (drop (inwards s dead) (putMid b (length l - b) l p))
+tail-put s dead b l p e h H =
     let q : length p ≡ length l - b = H .long ∙ ap length (tail-lent b l h) ∙ length-drop b l in
     rw (← e, tail-back b l h p q, ← (tail-lent b l h)) H
 

@@ -1,20 +1,21 @@
 -- What the parts of a whole repair leave on the wire and in the nodes.
 use mathlib.Core.Path.{_≡_}
-use mathlib.Core.Bool.{true}
+use mathlib.Core.Bool.{true, cond}
 use mathlib.Core.List.{List}
 use Prim.Native.Nat.{ℕ, _+_, _*_, _-_, _<_}
-use lib.ListN.{length, getD, set, take, drop}
+use lib.Dec.{eqb}
+use lib.ListN.{length, getD, take, drop}
 use Rattle.lists.specs.Lists.{element, flat, piece}
 use Rattle.column.specs.declared.Outcome.{Outcome}
 use Rattle.column.specs.declared.Outcome.the-variants.{Solved}
 use Rattle.shape.specs.declared.Shape.{Shape}
 use Rattle.shape.specs.Shape.{size}
 use Rattle.code.specs.Code.{narrow}
-use Rattle.classes.specs.Classes.{node, placeAt, messageSize}
+use Rattle.classes.specs.Classes.{node, spotAt, messageSize}
 use Rattle.classes.specs.Steps.{solved, ownPairs, contents}
 use Rattle.classes.specs.Whole.{fromHelpers}
 use Rattle.steps.specs.Storing.{Paired}
-use Rattle.solving.specs.Solving.{slotOf, HandedOut, Helped}
+use Rattle.solving.specs.Solving.{slotOf, Helped, HandedOut, Owned}
 
 -- how many symbols the helpers' messages have: to one rank, and to all
 unfoldable pub inward : Shape → List ℕ → ℕ
@@ -47,17 +48,21 @@ pub record Sent (s : Shape) (dead helpers : List ℕ) (u : ℕ) (before after : 
   pub rest : (z : ℕ) → ((v y : ℕ) → v < length dead → (v ≡ u → ⊥) → y < messageSize s dead → slotOf true (length dead) u v * messageSize s dead + y ≡ z → ⊥)
       → getD after (inwards s dead + z) 0 ≡ getD before (inwards s dead + z) 0
 
--- one sum of rank u's first step
-pub record SumDone (s : Shape) (dead helpers : List ℕ) (u x e : ℕ) (part part-after wire wire-after : List ℕ) (outcome : Outcome) : Type 0 where
-  pub never : outcome ≡ Solved
-  pub own : part-after
-      ≡ set (set part (placeAt s dead u 0 e) (getD (solved narrow s dead helpers u (toRank s dead u wire) x) (node dead u) 0)) (placeAt s dead u 1 e)
-      (getD (solved narrow s dead helpers u (toRank s dead u wire) x) (s .n) 0)
+-- where the own symbol at the first (0) or the other (1) place of sum x stands in a node
+unfoldable pub ownPlace : Shape → List ℕ → ℕ → ℕ → ℕ → ℕ
+ownPlace s dead u e x = cond (eqb e 0) (spotAt s dead u x .one) (spotAt s dead u x .other)
+
+-- the places of a run of sums behind a row
+pub record Offsets (s : Shape) (dead : List ℕ) (u first run row : ℕ) (ones others : List ℕ) : Type 0 where
+  pub one : (t : ℕ) → t < run → row + element ones t ≡ ownPlace s dead u 0 (first + t)
+  pub other : (t : ℕ) → t < run → row + element others t ≡ ownPlace s dead u 1 (first + t)
+
+-- rank u's first step at the sums with Done x
+pub record OnWire (s : Shape) (dead helpers : List ℕ) (u : ℕ) (Done : ℕ → Type 0) (part part-after wire wire-after : List ℕ) : Type 0 where
+  pub own : Owned s dead helpers u (toRank s dead u wire) (ownPlace s dead u) Done part part-after
   pub long : length wire-after ≡ length wire
   pub head : take (inwards s dead) wire-after ≡ take (inwards s dead) wire
-  pub entries : List ℕ
-  pub each : (i : ℕ) → i < s .n + 1 → element entries i ≡ getD (solved narrow s dead helpers u (toRank s dead u wire) x) i 0
-  pub tail : HandedOut s dead u true x entries (drop (inwards s dead) wire) (drop (inwards s dead) wire-after)
+  pub sent : HandedOut s dead helpers u (toRank s dead u wire) true Done (drop (inwards s dead) wire) (drop (inwards s dead) wire-after)
 
 -- rank u's first step: its own pairs at their places in its node, its sums on the wire
 pub record FirstOnWire (s : Shape) (dead helpers : List ℕ) (u : ℕ) (part before after : List ℕ) (outcome : Outcome) : Type 0 where

@@ -1,28 +1,34 @@
 // The work of a whole repair: the helpers' messages on the wire, then each new node's first step, then each second step.
 use classes::Layout;
-use classes::of_class;
+use classes::class_size;
+use classes::members_of;
 use classes::rank_class;
 use column::Outcome;
+use rows::RUN;
 use shape::size;
+use solving::gather;
 use solving::hand_out;
-use solving::solve_sum;
-use solving::store_own;
+use solving::put_entry;
+use solving::run_from;
+use solving::run_table;
 use steps::message_to;
 use steps::recover;
-use sums::first_places;
 use sums::place;
+use tables::TABLE;
 ghost use mathlib.Core.Path.{_≡_};
 ghost use mathlib.Core.Bool.{true};
-ghost use Prim.Native.Nat.{_+_, _-_, _*_, _%_, _^_, _≤_, _<_};
-ghost use lib.ListN.{length};
+ghost use Prim.Native.Nat.{ℕ, _+_, _-_, _*_, _^_, _≤_, _<_};
+ghost use lib.ListN.{length, getD};
+ghost use Rattle.lists.specs.Lists.{element, rising};
 ghost use Rattle.shape.specs.Shape.{size};
-ghost use Rattle.classes.specs.Classes.{spotAt, messageSize};
-ghost use Rattle.classes.specs.Layout.{Ready};
-ghost use Rattle.solving.specs.Solving.{Told};
-ghost use Rattle.classes.specs.Whole.{fromHelpers};
-ghost use Rattle.wiring.specs.Wires.{inward, inwards, toRank, Messaged, SumDone, Wired, FirstOnWire, Exchanged, Renewed};
 ghost use Rattle.code.specs.Code.{narrow};
-ghost use Rattle.lists.specs.Lists.{rising};
+ghost use Rattle.rows.specs.Rows.{mostPlaces};
+ghost use Rattle.filling.specs.Filling.{InRun, InLayers};
+ghost use Rattle.classes.specs.Classes.{rankClass, members, placeAt, messageSize};
+ghost use Rattle.classes.specs.Layout.{Ready, Listed};
+ghost use Rattle.classes.specs.Whole.{fromHelpers};
+ghost use Rattle.solving.specs.Solving.{Multiplied};
+ghost use Rattle.wiring.specs.Wires.{inward, inwards, toRank, Messaged, Wired, Offsets, OnWire, FirstOnWire, Exchanged, Renewed};
 
 // The symbols of the helpers' messages to one rank.
 pub fn told_by(g: Layout, dead: &[usize], helpers: &[usize]) -> usize
@@ -76,42 +82,100 @@ pub fn send(
     }
 }
 
-// One sum of rank u's first step, from the messages on the wire: its own pair goes to its places in its node, its sums to theirs on the wire.
-fn first_sum(
+// The first (which = 0) or the other (1) places, in batch 0, of a run of the members of rank u's class.
+fn offsets(
+    g: Layout,
+    dead: &[usize],
+    u: usize,
+    which: usize,
+    class: &[u16],
+    first: usize,
+    run: usize,
+) -> [usize; RUN]
+    requires { ⌜ (Ready (now dead) g) × (u < length (now dead)) × (Listed (now dead) (rankClass (now dead) u) (g .shape .n) (now class)) × (run ≤ mostPlaces) × (first + run ≤ length (members (now dead) (rankClass (now dead) u) (2 ^ g .shape .n))) ⌝ }
+    ensures { λ out. ⌜ ((t : ℕ) → t < run → element out t ≡ placeAt (g .shape) (now (dead .entry)) u which (getD (now (class .entry)) (first + t) 0)) ⌝ }
+{
+    let mut out = [0usize; RUN];
+    for t in 0..run {
+        out[t] = place(g, dead, u, which, class[first + t] as usize);
+    }
+    out
+}
+
+// The first step at a run of sums, from the messages on the wire: the own symbols go to their places in the node, the sums to theirs on
+// the wire.
+fn run_on_wire(
     g: Layout,
     dead: &[usize],
     helpers: &[usize],
     told: usize,
     u: usize,
-    x: usize,
-    e: usize,
+    first: usize,
+    run: usize,
+    table: &[u16],
+    row: usize,
+    ones: [usize; RUN],
+    others: [usize; RUN],
     part: &mut [u16],
     wire: &mut [u16],
-) -> Outcome
-    requires { ⌜ (Ready (now dead) g) × (told ≡ inward (g .shape) (now dead)) × (e < g .batches * g .places) × (Told (g .shape) (now dead) (now helpers) u (toRank (g .shape) (now dead) u (now wire)) x) × (spotAt (g .shape) (now dead) u x .a ≡ e % 2 ^ g .shape .n) ⌝ }
-    requires { ⌜ (length (now part) ≡ size (g .shape)) × (length (now wire) ≡ inwards (g .shape) (now dead) + length (now dead) * (length (now dead) - 1) * messageSize (g .shape) (now dead)) ⌝ }
-    ensures { λ r. ⌜ SumDone (g .shape) (now (dead .entry)) (now (helpers .entry)) u x e (now (part .entry)) (now (part .exit)) (now (wire .entry)) (now (wire .exit)) r ⌝ }
+)
+    requires { ⌜ (Ready (now dead) g) × (u < length (now dead)) × (told ≡ inward (g .shape) (now dead)) × (length (now part) ≡ size (g .shape)) × (Wired (g .shape) (now dead) (now helpers) (now wire)) ⌝ }
+    requires { ⌜ (run ≤ mostPlaces) × (first + run ≤ messageSize (g .shape) (now dead)) × (Multiplied (g .shape) (now dead) (now helpers) u first run (now table)) × (Offsets (g .shape) (now dead) u first run row ones others) ⌝ }
+    ensures { λ _. ⌜ OnWire (g .shape) (now (dead .entry)) (now (helpers .entry)) u (InRun first run) (now (part .entry)) (now (part .exit)) (now (wire .entry)) (now (wire .exit)) ⌝ }
 {
+    let s = g.shape;
+    let n = s.n;
     let at = u * told;
     let end = at + told;
     let base = dead.len() * told;
-    let r = solve_sum(g, dead, helpers, u, &wire[at..end], x, e);
-    let outcome = r.outcome;
-    let Outcome::Solved = outcome else {
-        return Outcome::ZeroDivisor;
-    };
-    let entries = r.values;
-    store_own(
-        g,
-        dead,
-        u,
-        entries,
-        place(g, dead, u, 0, e),
-        place(g, dead, u, 1, e),
-        part,
+    let sent = gather(g, helpers, first, run, &wire[at..end]);
+    put_entry(helpers, run, table, &sent, dead[u], row, ones, part);
+    put_entry(helpers, run, table, &sent, n, row, others, part);
+    hand_out(
+        g, dead, helpers, u, true, first, run, table, &sent, &mut wire[base..],
     );
-    hand_out(g, dead, u, true, x, entries, &mut wire[base..]);
-    Outcome::Solved
+}
+
+// At a run of the members of the rank's class, in every batch.
+fn batches_on_wire(
+    g: Layout,
+    dead: &[usize],
+    helpers: &[usize],
+    told: usize,
+    u: usize,
+    count: usize,
+    first: usize,
+    run: usize,
+    table: &[u16],
+    ones: [usize; RUN],
+    others: [usize; RUN],
+    part: &mut [u16],
+    wire: &mut [u16],
+)
+    requires { ⌜ (Ready (now dead) g) × (u < length (now dead)) × (told ≡ inward (g .shape) (now dead)) × (length (now part) ≡ size (g .shape)) × (Wired (g .shape) (now dead) (now helpers) (now wire)) ⌝ }
+    requires { ⌜ (run ≤ mostPlaces) × (first + run ≤ count) × (messageSize (g .shape) (now dead) ≡ g .batches * count) × ((b : ℕ) → b < g .batches → Multiplied (g .shape) (now dead) (now helpers) u (b * count + first) run (now table)) × ((b : ℕ) → b < g .batches → Offsets (g .shape) (now dead) u (b * count + first) run (b * g .batch * g .places) ones others) ⌝ }
+    ensures { λ _. ⌜ OnWire (g .shape) (now (dead .entry)) (now (helpers .entry)) u (InLayers count first run (g .batches)) (now (part .entry)) (now (part .exit)) (now (wire .entry)) (now (wire .exit)) ⌝ }
+{
+    let batches = g.batches;
+    let batch = g.batch;
+    let places = g.places;
+    for b in 0..batches {
+        run_on_wire(
+            g,
+            dead,
+            helpers,
+            told,
+            u,
+            b * count + first,
+            run,
+            table,
+            b * batch * places,
+            ones,
+            others,
+            part,
+            wire,
+        );
+    }
 }
 
 // The first step of rank u from the messages on the wire.
@@ -127,18 +191,19 @@ fn first_on_wire(
     requires { ⌜ (Ready (now dead) g) × (u < length (now dead)) × (told ≡ inward (g .shape) (now dead)) × (length (now part) ≡ size (g .shape)) × (Wired (g .shape) (now dead) (now helpers) (now wire)) ⌝ }
     ensures { λ r. ⌜ FirstOnWire (g .shape) (now (dead .entry)) (now (helpers .entry)) u (now (part .exit)) (now (wire .entry)) (now (wire .exit)) r ⌝ }
 {
-    let class = rank_class(g, dead, u);
-    let count = first_places(g, dead);
-    let mut x = 0;
-    for e in 0..count {
-        if !of_class(g, dead, class, e) {
-            continue;
-        }
-        let outcome = first_sum(g, dead, helpers, told, u, x, e, part, wire);
-        let Outcome::Solved = outcome else {
-            return Outcome::ZeroDivisor;
-        };
-        x += 1;
+    let class = members_of(g, dead, rank_class(g, dead, u));
+    let count = class_size(g, dead);
+    let mut table = [0u16; TABLE];
+    let mut first = 0;
+    while first < count {
+        let run = run_from(count, first);
+        run_table(g, dead, helpers, u, &class, first, run, &mut table);
+        let ones = offsets(g, dead, u, 0, &class, first, run);
+        let others = offsets(g, dead, u, 1, &class, first, run);
+        batches_on_wire(
+            g, dead, helpers, told, u, count, first, run, &table, ones, others, part, wire,
+        );
+        first += run;
     }
     Outcome::Solved
 }

@@ -27,7 +27,6 @@ places c e h =
     let p = c .before .before .before .before .before .before .before .before .pre in
     let d = c .doubled .ensures in
     record {
-      long = d .0;
       inside = λ t l. omega (arith, d .1 t (omega (arith, p .0 .2)), p .1 .0, p .0 .3);
       apart = λ t v l k q. omega (arith, d .1 t (omega (arith, p .0 .2)), d .1 v (omega (arith, p .0 .2)), q);
     }

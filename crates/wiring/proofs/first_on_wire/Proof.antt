@@ -1,156 +1,142 @@
--- `wiring::first_on_wire` meets its contract: the pairs and the sums passed stand at their places. Assumes nothing.
-use mathlib.Core.Path.{_≡_, refl, sym, ap, _∙_}
-use mathlib.Core.Bool.{true}
-use mathlib.Core.List.{List}
-use Prim.Native.Nat.{ℕ, _+_, _-_, _*_, _≤_, _<_}
+-- `wiring::first_on_wire` meets its contract: the sums of the members passed are done, in every batch. Assumes nothing.
+use mathlib.Core.Path.{_≡_, refl, sym, _∙_}
+use Prim.Native.Nat.{ℕ, _+_, _-_, _*_, _^_, _≤_, _<_}
 use native.Mathlib.Omega.{arith}
 use borrow.Author.Needs.{needs}
-use borrow.Author.Tests.{not-true, not-false}
-use lib.ListN.{length, getD, take, drop}
-use lib.Seq.{getD-drop}
-use Rattle.shape.specs.declared.Shape.{Shape}
-use Rattle.shape.specs.Shape.{size}
+use lib.ListN.{length}
+use Rattle.shape.proofs.Accepted.{shape-accepted}
 use Rattle.code.specs.Code.{narrow}
-use Rattle.classes.specs.Classes.{spot, messageSize}
-use Rattle.classes.specs.Steps.{ownPair, ownPairs}
-use Rattle.steps.specs.Storing.{sumSymbol}
-use Rattle.wiring.specs.Wires.{inwards, toRank}
+use Rattle.rows.specs.Rows.{Low}
+use Rattle.rows.proofs.Rows.{low-replicate}
+use Rattle.tables.specs.Tables.{tableSize}
+use Rattle.filling.specs.Filling.{Below}
+use Rattle.classes.specs.Classes.{rankClass, members, messageSize}
+use Rattle.classes.specs.Layout.{Listed}
 use Rattle.classes.proofs.Ranks.{rankClass-le}
-use Rattle.classes.proofs.FirstStep.{pairs-at}
-use Rattle.classes.proofs.Layouts.{share-high, ready-dead}
-use Rattle.classes.proofs.Passes.{numberAt, number-none, number-yes, number-no, number-all, Here, here, spot-number, missed, sum-below, place-below}
-use Rattle.steps.proofs.Storing.{Pairing, pairing-none, pairing-skip, pairing-more}
-use Rattle.solving.proofs.Sending.{helped-told, Sending, sending-none, sending-more}
-use Rattle.wiring.proofs.OnWire.{to-rank-front}
+use Rattle.classes.proofs.Members.{members-few}
+use Rattle.solving.specs.Solving.{Helped}
+use Rattle.solving.proofs.Entries.{class-message, all-passed}
+use Rattle.wiring.specs.Wires.{toRank, OnWire}
+use Rattle.wiring.proofs.Passing.{offsets-are, on-wire-none, on-wire-run, on-wire-end, still-wired}
 use Rattle.wiring.proofs.first_on_wire.Statement.{statement}
 use Rattle.wiring.proofs.first_on_wire.Tie as tie
 
--- a symbol of the own pair of sum x
-pairAt : Shape → List ℕ → List ℕ → ℕ → List ℕ → ℕ → ℕ → ℕ
-pairAt s dead helpers u wire x which = getD (ownPairs narrow s dead helpers u (toRank s dead u wire)) (x * 2 + which) 0
-
 abbrev Inv-loop : tie.InvT-loop
-Inv-loop g dead helpers told u part₀ wire₀ class count x₀ e₀ part wire x e =
-    (e ≤ count) × (x ≡ numberAt (g .shape) dead class e) × (length part ≡ size (g .shape)) × Pairing (g .shape) dead u (pairAt (g .shape) dead helpers u wire₀) e part
-    × (length wire ≡ length wire₀) × (take (inwards (g .shape) dead) wire ≡ take (inwards (g .shape) dead) wire₀)
-    × Sending (g .shape) dead helpers u (toRank (g .shape) dead u wire₀) true x (drop (inwards (g .shape) dead) wire₀) (drop (inwards (g .shape) dead) wire)
+Inv-loop g dead helpers told u part₀ wire₀ class count table₀ first₀ part wire table first =
+    (first ≤ count) × (length table ≡ tableSize) × Low (narrow .modulus) table × OnWire (g .shape) dead helpers u (Below count first) part₀ part wire₀ wire
 
 abbrev μ-loop : tie.MeasureT-loop
-μ-loop g dead helpers told u part₀ wire₀ class count x₀ e₀ part wire x e = count - e
+μ-loop g dead helpers told u part₀ wire₀ class count table₀ first₀ part wire table first = count - first
 
 loop-holds : tie.Need-loop-holds Inv-loop μ-loop
 loop-holds c =
-    let p = c .before .before .before .before .before .before .pre in
-    (search needs, number-none _ _ _, p .3, pairing-none (ready-dead (p .0)) _ (p .1) _ _, refl, refl, sending-none _ _ _ _ _ _ _)
+    let p = c .before .before .before .before .before .before .before .pre in (omega arith, refl, low-replicate _ tableSize 0 (omega arith), on-wire-none (p .0) _ _ (p .1) _ _ _ (λ x h d. omega (arith, d)))
+
+-- the members of the rank's class
+whole : (c : tie.After-class-size Inv-loop μ-loop) →
+    let a = c .before .before .before .before .before .before .before .args in
+    (c .class-size .result ≡ length (members (a .dead .now) (rankClass (a .dead .now) (a .u)) (2 ^ a .g .shape .n))) × (messageSize (a .g .shape) (a .dead .now) ≡ a .g .batches * c .class-size .result)
+whole c =
+    let a = c .before .before .before .before .before .before .before .args in
+    let e = c .class-size .ensures (rankClass (a .dead .now) (a .u)) (rankClass-le _ _) in
+    (e, rw e (class-message (c .before .before .before .before .before .before .before .pre .0) (a .u)))
+
+listed : (c : tie.After-members-of Inv-loop μ-loop) → let a = c .before .before .before .before .before .before .args in Listed (a .dead .now) (rankClass (a .dead .now) (a .u)) (a .g .shape .n) (c .members-of .result)
+listed c = rw (c .before .rank-class .ensures) at (c .members-of .ensures)
+
+-- the run is within the class
+inside : (c : tie.After-run-from Inv-loop μ-loop) →
+    let a = c .before .before .before .before .before .before .before .before .before .before .args in c .before .before .loop .first + c .run-from .result ≤ length (members (a .dead .now) (rankClass (a .dead .now) (a .u)) (2 ^ a .g .shape .n))
+inside c = rw (← (whole (c .before .before .before) .0)) (c .run-from .ensures .2)
+
+helped : (c : tie.Start Inv-loop μ-loop) → let a = c .args in Helped (a .g .shape) (a .dead .now) (a .helpers .now) (a .u) (toRank (a .g .shape) (a .dead .now) (a .u) (a .wire .now))
+helped c = c .pre .4 .helped _ (c .pre .1)
+
+slice-aggregate-run-table : tie.Need-slice-aggregate-run-table Inv-loop μ-loop
+slice-aggregate-run-table c = sym (c .before .before .before .before .before .members-of .ensures .long)
+
+slice-aggregate-run-table-2 : tie.Need-slice-aggregate-run-table-2 Inv-loop μ-loop
+slice-aggregate-run-table-2 c = sym (c .before .before .before .before .loop .inv .1)
+
+run-table-requires : tie.Need-run-table-requires Inv-loop μ-loop
+run-table-requires c κs =
+    let p = c .before .before .before .before .before .before .before .before .before .before .before .before .pre in
+    let H = helped (c .before .before .before .before .before .before .before .before .before .before .before .before) in
+    let l = c .before .before .before .before .loop in
+    ((p .0, p .1, H .rises, H .count, H .apart), (listed (c .before .before .before .before .before .before), c .before .before .run-from .ensures .1, inside (c .before .before), l .inv .1, l .inv .2))
+
+slice-aggregate-offsets : tie.Need-slice-aggregate-offsets Inv-loop μ-loop
+slice-aggregate-offsets c = sym (c .before .before .before .before .before .before .before .before .before .members-of .ensures .long)
+
+offsets-requires : tie.Need-offsets-requires Inv-loop μ-loop
+offsets-requires c κs = let p = c .before .before .before .before .before .before .before .before .before .before .before .before .before .before .before .pre in (p .0, p .1, listed (c .before .before .before .before .before .before .before .before .before), c .before .before .before .before .before .run-from .ensures .1, inside (c .before .before .before .before .before))
+
+slice-aggregate-offsets-2 : tie.Need-slice-aggregate-offsets-2 Inv-loop μ-loop
+slice-aggregate-offsets-2 c = sym (c .before .before .before .before .before .before .before .before .before .before .before .members-of .ensures .long)
+
+offsets-requires-2 : tie.Need-offsets-requires-2 Inv-loop μ-loop
+offsets-requires-2 c κs = let p = c .before .before .before .before .before .before .before .before .before .before .before .before .before .before .before .before .before .pre in (p .0, p .1, listed (c .before .before .before .before .before .before .before .before .before .before .before), c .before .before .before .before .before .before .before .run-from .ensures .1, inside (c .before .before .before .before .before .before .before))
+
+slice-aggregate-batches-on-wire : tie.Need-slice-aggregate-batches-on-wire Inv-loop μ-loop
+slice-aggregate-batches-on-wire c = sym (c .before .before .before .before .before .before .run-table .ensures .0)
+
+batches-on-wire-requires : tie.Need-batches-on-wire-requires Inv-loop μ-loop
+batches-on-wire-requires c κs =
+    let p = c .before .before .before .before .before .before .before .before .before .before .before .before .before .before .before .before .before .before .before .before .before .pre in
+    let l = c .before .before .before .before .before .before .before .before .before .before .before .before .before .loop in
+    let r = c .before .before .before .before .before .before .before .before .before .before .before .run-from .ensures in
+    let w = whole (c .before .before .before .before .before .before .before .before .before .before .before .before .before .before) in (
+      (p .0, p .1, p .2, l .inv .3 .own .long ∙ p .3, still-wired (p .0) _ _ (p .1) _ (l .part) (l .part) _ (l .wire) (l .wire) (omega (arith, p .4 .long)) _ (p .4) (l .inv .3)),
+      (
+        r .1,
+        r .2,
+        w .1,
+        rw (w .0) (c .before .before .before .before .before .before .before .before .run-table .ensures .2),
+        rw (w .0) (offsets-are (p .0) _ _ _ _ (listed (c .before .before .before .before .before .before .before .before .before .before .before .before .before .before .before)) (inside (c .before .before .before .before .before .before .before .before .before .before .before)) _ _ (c .before .before .before .before .before .offsets .ensures) (c .before .before .before .offsets2 .ensures)),
+      ),
+    )
+
+add-first : tie.Need-add-first Inv-loop μ-loop
+add-first c =
+    let a = c .before .before .before .before .before .before .before .before .before .before .before .before .before .before .before .before .before .before .before .before .before .before .before .before .before .before .args in
+    omega (
+      arith,
+      c .before .before .before .before .before .before .before .before .before .before .before .before .before .before .before .before .run-from .ensures .2,
+      whole (c .before .before .before .before .before .before .before .before .before .before .before .before .before .before .before .before .before .before .before) .0,
+      members-few (a .dead .now) (rankClass (a .dead .now) (a .u)) (2 ^ a .g .shape .n),
+      shape-accepted (a .g .shape) (c .before .before .before .before .before .before .before .before .before .before .before .before .before .before .before .before .before .before .before .before .before .before .before .before .before .before .pre .0 .shaped) .places-high,
+    )
+
+loop-less : tie.Need-loop-less Inv-loop μ-loop
+loop-less c = omega (arith, c .before .before .before .before .before .before .before .before .before .before .before .before .before .before .before .before .run-from .ensures .0, c .before .before .before .before .before .before .before .before .before .before .before .before .before .before .before .before .before .loop-test .taken)
 
 loop-again : tie.Need-loop-again Inv-loop μ-loop
 loop-again c =
-    let p = c .before .before .before .before .before .before .before .before .before .before .pre in
-    let l = c .before .before .before .loop in
-    let t = sym (c .before .of-class .ensures) ∙ not-true _ (c .if1 .taken) in (
-      search needs,
-      number-no _ _ _ _ _ (l .inv .1) t,
-      l .inv .2,
-      pairing-skip (ready-dead (p .0)) _ (p .1) _ _ _ (l .inv .3) (missed _ _ _ (rw (c .before .before .before .before .before .rank-class .ensures) at t)),
-      l .inv .4,
-      l .inv .5,
-      l .inv .6,
+    let p = c .before .before .before .before .before .before .before .before .before .before .before .before .before .before .before .before .before .before .before .before .before .before .before .before .before .before .pre in
+    let a = c .before .before .before .before .before .before .before .before .before .before .before .before .before .before .before .before .before .before .before .before .before .before .before .before .before .before .args in
+    let l = c .before .before .before .before .before .before .before .before .before .before .before .before .before .before .before .before .before .before .loop in
+    let m = c .before .before .before .before .before .before .before .before .before .before .before .before .before .run-table .ensures in (
+      c .before .before .before .before .before .before .before .before .before .before .before .before .before .before .before .before .run-from .ensures .2,
+      m .0,
+      m .1,
+      on-wire-run (p .0) _ _ (p .1) _ _ _ _ _ _ (omega (arith, p .4 .long)) (l .first) (c .before .before .before .before .before .before .before .before .before .before .before .before .before .before .before .before .run-from .result) (a .g .batches) (c .before .before .before .before .before .before .before .before .before .before .before .before .before .before .before .before .before .before .before .class-size .result) (whole (c .before .before .before .before .before .before .before .before .before .before .before .before .before .before .before .before .before .before .before) .1) (l .inv .3) (c .before .before .before .before .batches-on-wire .ensures),
     )
 
--- the sum at e
-at : (c : tie.Else1 Inv-loop μ-loop) →
-    let a = c .before .before .before .before .before .before .before .before .before .before .args in
-    let l = c .before .before .before .loop in
-    Here (a .g .shape) (a .dead .now) (a .u) (l .e) (l .x)
-at c =
-    let k = c .before .before .before .before .before .rank-class .ensures in
-    here (c .before .before .before .before .before .before .before .before .before .before .pre .0) _ _ _ (omega arith) (rw k at (sym (c .before .of-class .ensures) ∙ not-false _ (c .if1 .left))) (rw k at (c .before .before .before .loop .inv .1))
+same-length : tie.Need-same-length Inv-loop μ-loop
+same-length c = c .before .loop .inv .3 .own .long
 
--- the messages are still what they were
-same : (c : tie.Else1 Inv-loop μ-loop) →
-    let a = c .before .before .before .before .before .before .before .before .before .before .args in
-    toRank (a .g .shape) (a .dead .now) (a .u) (c .before .before .before .loop .wire) ≡ toRank (a .g .shape) (a .dead .now) (a .u) (a .wire .now)
-same c =
-    let st = c .before .before .before .before .before .before .before .before .before .before in
-    let l = c .before .before .before .loop in
-    to-rank-front _ _ _ _ _ (st .pre .1) (omega (arith, l .inv .4, st .pre .4 .long)) (omega (arith, st .pre .4 .long)) (l .inv .5)
-
-first-sum-requires : tie.Need-first-sum-requires Inv-loop μ-loop
-unfolding spot
-first-sum-requires c κs =
-    let st = c .before .before .before .before .before .before .before .before .before .before .before .before in
-    let p = st .pre in
-    let H = at (c .before .before) in
-    let l = c .before .before .before .before .before .loop in (
-      (p .0, p .2, omega (arith, c .before .before .before .before .before .before .first-places .ensures, c .before .before .before .before .loop-test .taken), rw (same (c .before .before)) (helped-told _ _ _ _ _ (p .4 .helped _ (p .1)) _ (H .below)), ap (λ q. q .a) (spot-number _ _ _ _ _ _ (H .sum) (H .number))),
-      (l .inv .2, l .inv .4 ∙ p .4 .long),
-    )
+same-length-2 : tie.Need-same-length-2 Inv-loop μ-loop
+same-length-2 c = c .before .loop .inv .3 .long
 
 returns : tie.Need-returns Inv-loop μ-loop
 returns c =
-    let z : _≡_ {A = ℕ} 0 1 = cc (c .before .before .before .before .before .before .first-sum .ensures .never) in
-    absurd (omega arith)
-
-add-x : tie.Need-add-x Inv-loop μ-loop
-add-x c = omega (arith, at (c .before .before .before .before .before .before .before .before .before) .below, share-high (c .before .before .before .before .before .before .before .before .before .before .before .before .before .before .before .before .before .before .before .pre .0))
-
-add-e-2 : tie.Need-add-e-2 Inv-loop μ-loop
-add-e-2 c = omega (arith, c .before .before .before .before .before .before .before .before .before .before .before .loop-test .taken)
-
-loop-less-2 : tie.Need-loop-less-2 Inv-loop μ-loop
-loop-less-2 c = omega (arith, c .before .before .before .before .before .before .before .before .before .before .before .loop-test .taken)
-
-loop-again-2 : tie.Need-loop-again-2 Inv-loop μ-loop
-unfolding pairAt ownPair
-loop-again-2 c =
-    let st = c .before .before .before .before .before .before .before .before .before .before .before .before .before .before .before .before .before .before .before in
-    let a = st .args in
-    let p = st .pre in
-    let D = ready-dead (p .0) in
-    let l = c .before .before .before .before .before .before .before .before .before .before .before .before .loop in
-    let H = at (c .before .before .before .before .before .before .before .before .before) in
-    let S = c .before .before .before .before .before .before .first-sum .ensures in
-    let m = same (c .before .before .before .before .before .before .before .before .before) in
-    let e-low : l .e < a .g .batches * a .g .places = omega (arith, c .before .before .before .before .before .before .before .before .before .before .before .before .before .first-places .ensures, c .before .before .before .before .before .before .before .before .before .before .before .loop-test .taken) in
-    let pr = pairs-at narrow (a .g .shape) (a .dead .now) (a .helpers .now) (a .u) (toRank (a .g .shape) (a .dead .now) (a .u) (a .wire .now)) (l .x) in (
-      omega (arith, c .before .before .before .before .before .before .before .before .before .before .before .loop-test .taken),
-      number-yes _ _ _ _ _ (l .inv .1) (sym (c .before .before .before .before .before .before .before .before .before .before .of-class .ensures) ∙ not-false _ (c .before .before .before .before .before .before .before .before .before .if1 .left)),
-      c .before .before .before .before .before .before .first-sum .kept .1 .1 .1 .1 .1 .1 .1 .0 ∙ l .inv .2,
-      rw (S .own, m)
-          (pairing-more D (a .u) (p .1) (pairAt (a .g .shape) (a .dead .now) (a .helpers .now) (a .u) (a .wire .now)) (l .e) (l .x) _ _ (l .part) H (l .inv .3)
-          (rw (l .inv .2) (place-below (p .0) (a .u) 0 (l .e) (p .1) e-low)) (rw (l .inv .2) (place-below (p .0) (a .u) 1 (l .e) (p .1) e-low))
-          (sym (pr 0 (H .below) (omega arith))) (sym (pr 1 (H .below) (omega arith)))),
-      S .long ∙ l .inv .4,
-      S .head ∙ l .inv .5,
-      sending-more _ _ _ _ _ D (p .1) true (l .x) _ (drop (inwards (a .g .shape) (a .dead .now)) (l .wire)) _ (S .entries) (H .below) (l .inv .6) (S .tail) (rw m at (S .each)),
-    )
-
-returns-2 : tie.Need-returns-2 Inv-loop μ-loop
-unfolding pairAt sumSymbol
-returns-2 c =
-    let st = c .before .before .before .before .before .before .before .before in
-    let a = st .args in
-    let R = st .pre .0 in
     let l = c .before .loop in
-    let k = c .before .before .before .rank-class .ensures in
-    let e : l .e ≡ a .g .batches * a .g .places = omega (arith, c .before .before .first-places .ensures) in
-    let n : l .x ≡ messageSize (a .g .shape) (a .dead .now) =
-    l .inv .1 ∙ ap (numberAt (a .g .shape) (a .dead .now) (c .before .before .before .rank-class .result)) e ∙ rw k (number-all R _ (rankClass-le _ _)) in
-    let B = inwards (a .g .shape) (a .dead .now) in
-    record {
-      never = refl;
-      own = record {
-        long = l .inv .2;
-        one = λ b y S. l .inv .3 .each 0 b y (omega arith) S (rw e (sum-below R _ b y S));
-        other = λ b y S. l .inv .3 .each 1 b y (omega arith) S (rw e (sum-below R _ b y S));
-      };
-      sent = record {
-        long = l .inv .4;
-        head = l .inv .5;
-        each = λ v y h d k. sym (getD-drop B (l .wire) _ 0) ∙ l .inv .6 .each v y h d (rw n k) k;
-        rest = λ z h. sym (getD-drop B (l .wire) z 0) ∙ l .inv .6 .rest z h ∙ getD-drop B (a .wire .now) z 0;
-      };
-    }
+    let p = c .before .before .before .before .before .before .before .before .before .pre in
+    let a = c .before .before .before .before .before .before .before .before .before .args in
+    let w = whole (c .before .before) .1 in
+    let all : (x : ℕ) → x < messageSize (a .g .shape) (a .dead .now) → Below (c .before .before .class-size .result) (l .first) x = λ x h. all-passed (a .g .batches) (c .before .before .class-size .result) (l .first) x (omega arith) (rw (← w) h) in
+    let e = on-wire-end (p .0) _ _ (p .1) (Below (c .before .before .class-size .result) (l .first)) _ _ _ _ all (p .3) (l .inv .3) in
+    record { never = refl; own = e .0; sent = e .1 }
 
 pub first-on-wire-spec : {M : Type 1} → statement M
 first-on-wire-spec =
@@ -160,21 +146,21 @@ first-on-wire-spec =
     μ-loop
     (λ c κs. search needs)
     (λ c κs. search needs)
+    (λ c κs. search needs)
     loop-holds
     (λ c κs. search needs)
-    (λ c. search needs)
-    (λ c. search needs)
+    slice-aggregate-run-table
+    slice-aggregate-run-table-2
+    run-table-requires
+    slice-aggregate-offsets
+    offsets-requires
+    slice-aggregate-offsets-2
+    offsets-requires-2
+    slice-aggregate-batches-on-wire
+    batches-on-wire-requires
+    add-first
+    loop-less
     loop-again
-    first-sum-requires
-    (λ c. search needs)
-    (λ c. search needs)
-    (λ c. search needs)
-    (λ c. search needs)
-    returns
-    add-x
-    add-e-2
-    loop-less-2
-    loop-again-2
-    (λ c. search needs)
-    (λ c. search needs)
-    returns-2)
+    same-length
+    same-length-2
+    returns)
