@@ -105,6 +105,7 @@ module _ (s : Shape) (dead helpers nodes wire₀ W₁ : List ℕ) (A : Accepted 
     helped = λ u l. record {
       rises = A .lists .helpers-rising;
       count = A .lists .helpers-count;
+      apart = A .lists .apart;
       rank = l;
       long = ap length (to-rank u l) ∙ told-length u;
       below = λ j x k m. rw (to-rank u l) (told-below u j x l k m);

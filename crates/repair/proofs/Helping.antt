@@ -16,6 +16,7 @@ first-helped s dead helpers new messages pairs sums u P l =
     record {
       rises = r .helpers-rising;
       count = r .helpers-count;
+      apart = r .apart;
       rank = l;
       long = P .long;
       below = λ j x h k. P .below (j * messageSize s dead + x) (rw (P .long) (digits-lt h k));
