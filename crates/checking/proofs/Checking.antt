@@ -21,7 +21,7 @@ use Rattle.shape.proofs.Answers.{number-positive, afterwards-done, afterwards-r
 use Rattle.checking.specs.declared.Checked.{Checked}
 use Rattle.checking.specs.declared.Checked.the-variants.{Sound, Unmet, Refused}
 use Rattle.code.specs.Code.{narrow}
-use Rattle.code.specs.Archive.{equation, unmet, firstUnmet}
+use Rattle.code.specs.Archive.{equation, unmet, Codeword, firstUnmet}
 use Rattle.code.specs.Refusals.{checkRefusal}
 use Rattle.checking.specs.Promises.{checkedNumber, checkedValues, checkedBy, Checks, equationNumber, FirstUnmet}
 use Rattle.code.proofs.Accepted.{sound-iff}
@@ -84,6 +84,10 @@ module _ (s : Shape) (nodes : List ℕ) where
       to : checkedBy s (firstUnmet narrow s nodes) ≡ Sound → Dec (firstUnmet narrow s nodes ≡ size s * r) → firstUnmet narrow s nodes ≡ size s * r
       to e (yes d) = d
       to e (no d) = absurd (never _ _ _ (sym (cond-unequal _ _ (firstUnmet narrow s nodes) (size s * r) d) ∙ e))
+
+  -- a codeword is sound
+  pub sound-word : checkRefusal narrow s nodes ≡ 0 → Codeword narrow s nodes → Sound ≡ checkedBy s (firstUnmet narrow s nodes)
+  sound-word accepted word = sym (sound-none-iff .1 (sound-iff s nodes accepted .1 word))
 
   -- an equation that is named is the first that is not met
   pub unmet-tells : (layer a t : ℕ) → checkedBy s (firstUnmet narrow s nodes) ≡ Unmet layer a t → FirstUnmet s nodes layer a t
