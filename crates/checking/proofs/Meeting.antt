@@ -2,7 +2,7 @@
 use mathlib.Core.Path.{_≡_, refl, sym, ap, _∙_}
 use mathlib.Core.Bool.{Bool, true, false, _&&_}
 use mathlib.Core.List.{List}
-use Prim.Native.Nat.{ℕ, _+_, _-_, _*_, _%_, _^_, _<_}
+use Prim.Native.Nat.{ℕ, _+_, _-_, _*_, _%_, _^_, _<_, _≤_}
 use native.Mathlib.Decide.{ℕ-discrete}
 use native.Mathlib.Omega.{arith}
 use borrow.Author.Tests.{eqb-true}
@@ -21,11 +21,12 @@ use Rattle.shape.specs.Shape.{size}
 use Rattle.shape.specs.Refusals.{shapeBad}
 use Rattle.shape.proofs.Accepted.{passed}
 use Rattle.code.specs.Code.{narrow, points, GoodCode}
-use Rattle.code.specs.Archive.{symbol, column, placePoints, equation, Codeword}
+use Rattle.code.specs.Archive.{symbol, column, placePoints, equation}
 use Rattle.code.specs.Refusals.{checkRefusal}
 use Rattle.code.proofs.NodePoints.{points-length, points-good}
 use Rattle.code.proofs.Accepted.{Checkable, check-accepted, narrow-accepted}
-use Rattle.filling.specs.Filling.{listedAt, Fillable, Filled, Everywhere}
+use Rattle.filling.specs.Filling.{listedAt, Fillable, Filled, Below}
+use Rattle.checking.specs.Steps.{MetTo}
 
 -- one element more is there already
 pub same-more : (at i : ℕ) (f : ℕ → ℕ) (xs : List ℕ) (same : Bool) → (same ≡ true → Stored at i f xs xs) → same && eqb (f i) (getD xs (at + i) 0) ≡ true
@@ -69,7 +70,7 @@ module _ (s : Shape) (nodes : List ℕ) (accepted : checkRefusal narrow s nodes 
   }
 
   -- what would be filled in is there already: then all equations are met
-  module _ (w : Filled (s .n) (size s) (range 0 (s .k)) Everywhere nodes nodes) (p : ℕ) (within : p < size s) where
+  module _ (to : ℕ) (w : Filled (s .n) (size s) (range 0 (s .k)) (Below (s .n) to) nodes nodes) (p : ℕ) (within : p < size s) (low : p % 2 ^ s .n < to) where
     abbrev full : List ℕ
     full = completed (narrow .modulus) (points narrow (s .n) (p % 2 ^ s .n)) (range 0 (s .k)) (listedAt (size s) (range 0 (s .k)) nodes p)
 
@@ -83,7 +84,7 @@ module _ (s : Shape) (nodes : List ℕ) (accepted : checkRefusal narrow s nodes 
     held i h true e =
         let z = at-position list i e in
         ap (λ k. getD nodes (k * size s + p) 0) (sym (z .1)) ∙ sym (is .listed (position i list) (z .0)) ∙ ap (λ k. getD full k 0) (z .1)
-    held i h false e = w .there i p h e within tt
+    held i h false e = w .there i p h e within low
 
     whole : column s nodes p ≡ full
     unfolding column symbol
@@ -95,5 +96,5 @@ module _ (s : Shape) (nodes : List ℕ) (accepted : checkRefusal narrow s nodes 
     unfolding equation placePoints
     met t h = rw whole (is .met t (rw (points-length narrow (s .n) (p % 2 ^ s .n), range-length 0 (s .k)) h))
 
-  pub filled-codeword : Filled (s .n) (size s) (range 0 (s .k)) Everywhere nodes nodes → Codeword narrow s nodes
-  filled-codeword w = record { long = able .long; small = able .small; met = λ p t h l. met w p h t l }
+  pub filled-met : (to : ℕ) → to ≤ 2 ^ s .n → Filled (s .n) (size s) (range 0 (s .k)) (Below (s .n) to) nodes nodes → MetTo s nodes to
+  filled-met to high w = record { high = high; met = λ p t within low h. met to w p within low t h }

@@ -26,13 +26,14 @@ ghost use lib.ListN.{length};
 ghost use Rattle.shape.specs.Shape.{size};
 ghost use Rattle.shape.specs.Refusals.{answerNumber, shapeBad};
 ghost use Rattle.code.specs.Code.{narrow};
-ghost use Rattle.code.specs.Archive.{Codeword, firstUnmet};
+ghost use Rattle.code.specs.Archive.{firstUnmet};
 ghost use Rattle.code.specs.Refusals.{checkRefusal};
 ghost use Rattle.rows.specs.Rows.{mostPlaces, Low, Stored, remainder};
 ghost use Rattle.tables.specs.Tables.{tableSize, Marks};
 ghost use Rattle.patterns.specs.Patterns.{patterns, Represented};
-ghost use Rattle.filling.specs.Filling.{Fillable, FilledRun, Filled, InLayers, Everywhere};
+ghost use Rattle.filling.specs.Filling.{Fillable, FilledRun, Filled, InLayers, Below};
 ghost use Rattle.checking.specs.Promises.{checkedBy, Checks};
+ghost use Rattle.checking.specs.Steps.{MetTo};
 
 // What the check answers: "sound, or the first unmet equation by layer, then a, then t".
 pub enum Checked {
@@ -58,9 +59,10 @@ fn judge_check(s: Shape, nodes: &[u16]) -> Answer
     Answer::Done
 }
 
-// The first equation whose sum is not 0. The points and the column of a place serve all its equations.
-fn first_unmet(s: Shape, nodes: &[u16]) -> Checked
-    requires { ⌜ checkRefusal narrow s (now nodes) ≡ 0 ⌝ }
+// The first equation whose sum is not 0, where all those at the a below `from` are met. The points and the column of a place serve all
+// its equations.
+fn first_unmet(s: Shape, nodes: &[u16], from: usize) -> Checked
+    requires { ⌜ (checkRefusal narrow s (now nodes) ≡ 0) × MetTo s (now nodes) from ⌝ }
     ensures { λ found. ⌜ found ≡ checkedBy s (firstUnmet narrow s (now (nodes .entry))) ⌝ }
 {
     let n = s.n;
@@ -70,7 +72,7 @@ fn first_unmet(s: Shape, nodes: &[u16]) -> Checked
     let r = n - k;
     let mut found = Checked::Sound;
     'equations: for layer in 0..layers {
-        for a in 0..two {
+        for a in from..two {
             let points = points_at(n, a);
             let column = gathered(nodes, n, layers * two, layer * two + a);
             let sums = parity(MODULUS, r, &points[..n], &column[..n]);
@@ -159,7 +161,7 @@ fn layers_met(
     true
 }
 
-// Likewise at all places, a run after the other.
+// How many a, a run after the other, have at every layer what would be filled in.
 fn runs_met(
     s: Shape,
     list: &[usize],
@@ -167,9 +169,9 @@ fn runs_met(
     few: bool,
     source: &[u16],
     nodes: &[u16],
-) -> bool
+) -> usize
     requires { ⌜ (shapeBad s ≡ false) × Fillable (s .n) (size s) (now list) (now nodes) × Marks (s .n) (now list) marked × (few ≡ true → Represented (s .n) marked (now list) (s .n) (now source)) ⌝ }
-    ensures { λ met. ⌜ (met ≡ true → Filled (s .n) (size s) (now (list .entry)) Everywhere (now (nodes .entry)) (now (nodes .entry))) ⌝ }
+    ensures { λ to. ⌜ (to ≤ 2 ^ s .n) × Filled (s .n) (size s) (now (list .entry)) (Below (s .n) to) (now (nodes .entry)) (now (nodes .entry)) ⌝ }
 {
     let n = s.n;
     let two = two_to(n);
@@ -187,16 +189,16 @@ fn runs_met(
             &mut table,
             nodes,
         ) {
-            return false;
+            return block * run;
         }
     }
-    true
+    two
 }
 
 // Likewise, with few multipliers worked out first, to pick from.
-fn met_from_few(s: Shape, list: &[usize], marked: [bool; MOST_NODES], nodes: &[u16]) -> bool
+fn met_from_few(s: Shape, list: &[usize], marked: [bool; MOST_NODES], nodes: &[u16]) -> usize
     requires { ⌜ (shapeBad s ≡ false) × Fillable (s .n) (size s) (now list) (now nodes) × Marks (s .n) (now list) marked × (patterns marked (s .n) ≤ mostPlaces) ⌝ }
-    ensures { λ met. ⌜ (met ≡ true → Filled (s .n) (size s) (now (list .entry)) Everywhere (now (nodes .entry)) (now (nodes .entry))) ⌝ }
+    ensures { λ to. ⌜ (to ≤ 2 ^ s .n) × Filled (s .n) (size s) (now (list .entry)) (Below (s .n) to) (now (nodes .entry)) (now (nodes .entry)) ⌝ }
 {
     let n = s.n;
     let mut source = [0u16; TABLE];
@@ -204,19 +206,22 @@ fn met_from_few(s: Shape, list: &[usize], marked: [bool; MOST_NODES], nodes: &[u
     runs_met(s, list, marked, true, &source, nodes)
 }
 
-// Likewise, where multipliers pay: picked from few, or for more than one layer of more than a few places. False where they do not.
-fn listed_met(s: Shape, list: &[usize], nodes: &[u16]) -> bool
+// Likewise, where multipliers pay: with places enough, picked from few or for two layers or more. None where they do not.
+fn listed_met(s: Shape, list: &[usize], nodes: &[u16]) -> usize
     requires { ⌜ (shapeBad s ≡ false) × Fillable (s .n) (size s) (now list) (now nodes) ⌝ }
-    ensures { λ met. ⌜ (met ≡ true → Filled (s .n) (size s) (now (list .entry)) Everywhere (now (nodes .entry)) (now (nodes .entry))) ⌝ }
+    ensures { λ to. ⌜ (to ≤ 2 ^ s .n) × Filled (s .n) (size s) (now (list .entry)) (Below (s .n) to) (now (nodes .entry)) (now (nodes .entry)) ⌝ }
 {
     let n = s.n;
     let layers = s.layers;
+    if n + layers < 6 {
+        return 0;
+    }
     let marked = marks(n, list);
     if pays(n, marked) {
         return met_from_few(s, list, marked, nodes);
     }
-    if (layers < 2) | (n + layers < 6) {
-        return false;
+    if layers < 2 {
+        return 0;
     }
     let none = [0u16; 1];
     runs_met(s, list, marked, false, &none, nodes)
@@ -225,10 +230,10 @@ fn listed_met(s: Shape, list: &[usize], nodes: &[u16]) -> bool
 // The node numbers, of which the first k are the data nodes.
 const NODES: [usize; MOST_NODES] = [0, 1, 2, 3, 4, 5, 6, 7, 8, 9, 10, 11];
 
-// Whether all equations are met, found by rows: nodes k to n-1 hold what would be filled in from nodes 0 to k-1. False also where rows do not pay.
-fn all_met(s: Shape, nodes: &[u16]) -> bool
+// How many a have all their equations met, in every layer: nodes k to n-1 hold there what would be filled in from nodes 0 to k-1.
+fn rows_met(s: Shape, nodes: &[u16]) -> usize
     requires { ⌜ checkRefusal narrow s (now nodes) ≡ 0 ⌝ }
-    ensures { λ met. ⌜ (met ≡ true → Codeword narrow s (now (nodes .entry))) ⌝ }
+    ensures { λ to. ⌜ MetTo s (now (nodes .entry)) to ⌝ }
 {
     let k = s.k;
     let all = NODES;
@@ -241,11 +246,6 @@ pub fn check(s: Shape, nodes: &[u16]) -> Checked
 {
     match judge_check(s, nodes) {
         Answer::Refused(cause) => Checked::Refused(cause),
-        Answer::Done => {
-            if all_met(s, nodes) {
-                return Checked::Sound;
-            }
-            first_unmet(s, nodes)
-        }
+        Answer::Done => first_unmet(s, nodes, rows_met(s, nodes)),
     }
 }

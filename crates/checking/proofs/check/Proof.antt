@@ -1,10 +1,10 @@
--- `checking::check` meets its contract: turned back by the judging, sound by rows, or answered by the search. Assumes nothing.
+-- `checking::check` meets its contract: turned back by the judging, or answered by the search. Assumes nothing.
 use mathlib.Core.Path.{_≡_, sym, ap, _∙_}
 use borrow.Author.Needs.{needs}
 use Rattle.shape.specs.Refusals.{answerNumber}
 use Rattle.code.specs.Code.{narrow}
 use Rattle.code.specs.Refusals.{checkRefusal}
-use Rattle.checking.proofs.Checking.{sound-word, checks-looked, checks-refused}
+use Rattle.checking.proofs.Checking.{checks-looked, checks-refused}
 use Rattle.checking.proofs.check.Statement.{statement}
 use Rattle.checking.proofs.check.Tie as tie
 
@@ -12,26 +12,21 @@ use Rattle.checking.proofs.check.Tie as tie
 accepted : (c : tie.After-enum-told) → let a = c .before .before .before .before .args in checkRefusal narrow (a .s) (a .nodes .now) ≡ 0
 accepted c = sym (c .before .before .judge-check .ensures) ∙ ap answerNumber (c .enum-told .given .1)
 
-all-met-requires : tie.Need-all-met-requires
-all-met-requires c κs = accepted c
+rows-met-requires : tie.Need-rows-met-requires
+rows-met-requires c κs = accepted c
+
+first-unmet-requires : tie.Need-first-unmet-requires
+first-unmet-requires c κs = (accepted (c .before), c .rows-met .ensures)
 
 returns : tie.Need-returns
 returns c =
-    let b = c .before .before in
-    checks-looked _ _ _ (accepted b) (sound-word _ _ (accepted b) (c .before .all-met .ensures (c .if1 .taken)))
-
-first-unmet-requires : tie.Need-first-unmet-requires
-first-unmet-requires c κs = accepted (c .before .before)
-
-returns-2 : tie.Need-returns-2
-returns-2 c =
     let j = c .before .before .before in
     checks-refused _ _ _ (ap answerNumber (sym (c .before .cause .given .1)) ∙ j .judge-check .ensures)
 
-returns-3 : tie.Need-returns-3
-returns-3 c = checks-looked _ _ _ (accepted (c .before .before .before)) (c .first-unmet .ensures)
+returns-2 : tie.Need-returns-2
+returns-2 c = checks-looked _ _ _ (accepted (c .before .before)) (c .first-unmet .ensures)
 
 pub check-spec : {M : Type 1} → statement M
 check-spec =
     tie.close
-    (tie.spec (λ c κs. search needs) (λ c. search needs) (λ c. search needs) all-met-requires returns first-unmet-requires returns-2 returns-3)
+    (tie.spec (λ c κs. search needs) (λ c. search needs) (λ c. search needs) rows-met-requires first-unmet-requires returns returns-2)

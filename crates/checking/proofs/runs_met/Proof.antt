@@ -1,13 +1,11 @@
 -- `checking::runs_met` meets its contract: what would be filled in at the a passed is there already. Assumes nothing.
 use mathlib.Core.Path.{_≡_, refl, sym, ap, _∙_}
-use mathlib.Core.Bool.{true≢false}
 use Prim.Native.Nat.{_+_, _-_, _*_, _/_, _^_, _≤_}
 use native.Mathlib.Nat.{mul-le-mul-right, div-le-self}
 use native.Mathlib.Omega.{arith}
 use borrow.Author.Needs.{needs}
 use borrow.Author.Tests.{not-false}
 use lib.ListN.{length}
-use lib.Pow.{pow-pos}
 use Rattle.shape.specs.Shape.{size}
 use Rattle.shape.proofs.Accepted.{shape-accepted}
 use Rattle.code.specs.Code.{narrow}
@@ -15,7 +13,7 @@ use Rattle.rows.specs.Rows.{Low}
 use Rattle.rows.proofs.Rows.{low-replicate}
 use Rattle.tables.specs.Tables.{tableSize}
 use Rattle.filling.specs.Filling.{Filled, Below}
-use Rattle.filling.proofs.Filling.{blocks-none, blocks-more, blocks-end}
+use Rattle.filling.proofs.Filling.{blocks-none, blocks-more}
 use Rattle.checking.proofs.runs_met.Statement.{statement}
 use Rattle.checking.proofs.runs_met.Tie as tie
 
@@ -70,8 +68,20 @@ layers-met-requires c κs =
     let s = l .before .before .before .before .before .before in
     (s .pre .0, s .pre .1, s .pre .2, s .pre .3, l .before .run-of .ensures .1, block-room (c .before), l .loop .inv .2, l .loop .inv .3)
 
+-- so what was passed is there, up to the number that is returned
+met-to : (c : tie.At-loop Inv-loop μ-loop) →
+    let s = c .before .before .before .before .before .before .args in
+    (c .loop .block * c .before .run-of .result ≤ 2 ^ s .s .n) × Filled (s .s .n) (size (s .s)) (s .list .now) (Below (s .s .n) (c .loop .block * c .before .run-of .result)) (s .nodes .now) (s .nodes .now)
+unfolding size
+met-to c = (omega (arith, blocks c, mul-le-mul-right (c .before .run-of .result) (c .loop .inv .0), ap (λ k. k * c .before .run-of .result) (c .loop .inv .1)), c .loop .inv .4)
+
+mul-result : tie.Need-mul-result Inv-loop μ-loop
+mul-result c =
+    let l = c .before .before .before .before .before in
+    omega (arith, met-to l .0, shape-accepted _ (l .before .before .before .before .before .before .pre .0) .places-high)
+
 returns : tie.Need-returns Inv-loop μ-loop
-returns c = λ h. absurd (true≢false (sym h))
+returns c = met-to (c .before .before .before .before .before)
 
 add-block : tie.Need-add-block Inv-loop μ-loop
 add-block c =
@@ -92,13 +102,12 @@ loop-again c =
     (search needs, refl, w .0, w .1, blocks-more _ (s .args .s .layers) _ _ (s .pre .1 .up) (l .loop .block) _ _ _ (l .loop .inv .4) (w .2 (not-false _ (c .if1 .left))))
 
 returns-2 : tie.Need-returns-2 Inv-loop μ-loop
-unfolding size
 returns-2 c =
     let l = c .before in
-    let s = l .before .before .before .before .before .before in
     let run = l .before .run-of .result in
     let e : l .loop .block ≡ l .before .before .two-to .result / run = omega arith in
-    λ _. blocks-end _ (s .args .s .layers) run _ (s .pre .1 .up) _ (l .loop .block) _ _ (ap (λ k. k * run) e ∙ blocks l) (pow-pos (s .args .s .n)) (l .loop .inv .4)
+    let z : l .loop .block * run ≡ l .before .before .two-to .result = ap (λ k. k * run) e ∙ blocks l ∙ sym (l .before .before .two-to .ensures) in
+    rw z at (met-to l)
 
 pub runs-met-spec : {M : Type 1} → statement M
 runs-met-spec =
@@ -113,6 +122,7 @@ runs-met-spec =
     mul-layers-met
     slice-aggregate-layers-met
     layers-met-requires
+    mul-result
     returns
     add-block
     (λ c. search needs)

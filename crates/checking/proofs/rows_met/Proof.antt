@@ -1,4 +1,4 @@
--- `checking::all_met` meets its contract: where nothing would be filled in anew from nodes 0 to k-1, the nodes are a codeword. Assumes nothing.
+-- `checking::rows_met` meets its contract: where nothing would be filled in anew from nodes 0 to k-1, the equations are met. Assumes nothing.
 use mathlib.Core.Path.{sym}
 use Prim.Native.Nat.{_≤_}
 use native.Mathlib.Omega.{arith}
@@ -6,9 +6,9 @@ use lib.Seq.{length-take-le}
 use Rattle.shape.specs.Shape.{mostNodes}
 use Rattle.code.proofs.Accepted.{check-accepted}
 use Rattle.code.proofs.Writing.{first-nodes}
-use Rattle.checking.proofs.Meeting.{check-shape, checkable-fillable, filled-codeword}
-use Rattle.checking.proofs.all_met.Statement.{statement}
-use Rattle.checking.proofs.all_met.Tie as tie
+use Rattle.checking.proofs.Meeting.{check-shape, checkable-fillable, filled-met}
+use Rattle.checking.proofs.rows_met.Statement.{statement}
+use Rattle.checking.proofs.rows_met.Tie as tie
 
 few : (c : tie.After-shared-slice-known) → c .before .args .s .k ≤ mostNodes
 few c = let able = check-accepted _ _ (c .before .pre) in omega (arith, able .shaped .k-high, able .shaped .n-high)
@@ -27,7 +27,8 @@ listed-met-requires c κs =
 returns : tie.Need-returns
 returns c =
     let b = c .before .before in
-    λ h. filled-codeword _ _ (b .before .pre) (rw (first-nodes _ (few b)) at (c .listed-met .ensures h))
+    let w = rw (first-nodes _ (few b)) at (c .listed-met .ensures) in
+    filled-met _ _ (b .before .pre) _ (w .0) (w .1)
 
-pub all-met-spec : {M : Type 1} → statement M
-all-met-spec = tie.close (tie.spec array-share-prefix-all slice-aggregate-listed-met listed-met-requires returns)
+pub rows-met-spec : {M : Type 1} → statement M
+rows-met-spec = tie.close (tie.spec array-share-prefix-all slice-aggregate-listed-met listed-met-requires returns)
