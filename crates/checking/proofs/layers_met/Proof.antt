@@ -63,7 +63,7 @@ run-met-requires c κs =
     let s = l .before .before .before .before .before .before .before .before .before .before in
     let e = l .before .before .before .before .before .two-to .ensures in
     let m = l .before .before .before .run-multipliers .ensures in
-    (rw e (s .pre .1), s .pre .2, s .pre .4, layer-room (c .before) .0, m .long, m .low)
+    (rw e (s .pre .1), s .pre .2, s .pre .4, omega (arith, layer-room (c .before) .0), m .long, m .low)
 
 returns : tie.Need-returns Inv-loop μ-loop
 returns c =
