@@ -2,7 +2,7 @@
 use mathlib.Core.Path.{_≡_, refl, sym, ap, _∙_}
 use mathlib.Core.Bool.{Bool, true, false, _&&_}
 use mathlib.Core.List.{List}
-use Prim.Native.Nat.{ℕ, _+_, _-_, _*_, _%_, _^_, _<_, _≤_}
+use Prim.Native.Nat.{ℕ, _+_, _-_, _*_, _%_, _^_, _<_}
 use native.Mathlib.Decide.{ℕ-discrete}
 use native.Mathlib.Omega.{arith}
 use borrow.Author.Tests.{eqb-true}
@@ -25,8 +25,9 @@ use Rattle.code.specs.Archive.{symbol, column, placePoints, equation}
 use Rattle.code.specs.Refusals.{checkRefusal}
 use Rattle.code.proofs.NodePoints.{points-length, points-good}
 use Rattle.code.proofs.Accepted.{Checkable, check-accepted, narrow-accepted}
-use Rattle.filling.specs.Filling.{listedAt, Fillable, Filled, Below}
-use Rattle.checking.specs.Steps.{MetTo}
+use Rattle.filling.specs.Filling.{listedAt, Fillable}
+use Rattle.filling.proofs.Filling.{filled-none}
+use Rattle.checking.specs.Steps.{HeldTo, MetTo}
 
 -- one element more is there already
 pub same-more : (at i : ℕ) (f : ℕ → ℕ) (xs : List ℕ) (same : Bool) → (same ≡ true → Stored at i f xs xs) → same && eqb (f i) (getD xs (at + i) 0) ≡ true
@@ -41,6 +42,10 @@ same-more at i f xs same so-far e = record {
     go : (j : ℕ) → j < i + 1 → Dec (j ≡ i) → getD xs (at + j) 0 ≡ f j
     go j h (yes d) = rw d (sym (eqb-true (f i) (getD xs (at + i) 0) (both same (eqb (f i) (getD xs (at + i) 0)) e .1)))
     go j h (no d) = so-far (both same (eqb (f i) (getD xs (at + i) 0)) e .0) .there j (omega arith)
+
+-- nothing was looked at
+pub held-none : (s : Shape) (list nodes : List ℕ) → HeldTo s list nodes 0
+held-none s list nodes = record { high = omega arith; held = filled-none (s .n) (size s) list nodes _ (λ p h d. absurd (omega (arith, d))) }
 
 module _ (s : Shape) (nodes : List ℕ) (accepted : checkRefusal narrow s nodes ≡ 0) where
   abbrev list : List ℕ
@@ -70,7 +75,7 @@ module _ (s : Shape) (nodes : List ℕ) (accepted : checkRefusal narrow s nodes 
   }
 
   -- what would be filled in is there already: then all equations are met
-  module _ (to : ℕ) (w : Filled (s .n) (size s) (range 0 (s .k)) (Below (s .n) to) nodes nodes) (p : ℕ) (within : p < size s) (low : p % 2 ^ s .n < to) where
+  module _ (to : ℕ) (w : HeldTo s (range 0 (s .k)) nodes to) (p : ℕ) (within : p < size s) (low : p % 2 ^ s .n < to) where
     abbrev full : List ℕ
     full = completed (narrow .modulus) (points narrow (s .n) (p % 2 ^ s .n)) (range 0 (s .k)) (listedAt (size s) (range 0 (s .k)) nodes p)
 
@@ -84,7 +89,7 @@ module _ (s : Shape) (nodes : List ℕ) (accepted : checkRefusal narrow s nodes 
     held i h true e =
         let z = at-position list i e in
         ap (λ k. getD nodes (k * size s + p) 0) (sym (z .1)) ∙ sym (is .listed (position i list) (z .0)) ∙ ap (λ k. getD full k 0) (z .1)
-    held i h false e = w .there i p h e within low
+    held i h false e = w .held .there i p h e within low
 
     whole : column s nodes p ≡ full
     unfolding column symbol
@@ -96,5 +101,5 @@ module _ (s : Shape) (nodes : List ℕ) (accepted : checkRefusal narrow s nodes 
     unfolding equation placePoints
     met t h = rw whole (is .met t (rw (points-length narrow (s .n) (p % 2 ^ s .n), range-length 0 (s .k)) h))
 
-  pub filled-met : (to : ℕ) → to ≤ 2 ^ s .n → Filled (s .n) (size s) (range 0 (s .k)) (Below (s .n) to) nodes nodes → MetTo s nodes to
-  filled-met to high w = record { high = high; met = λ p t within low h. met to w p within low t h }
+  pub held-met : (to : ℕ) → HeldTo s (range 0 (s .k)) nodes to → MetTo s nodes to
+  held-met to w = record { high = w .high; met = λ p t within low h. met to w p within low t h }

@@ -31,9 +31,9 @@ ghost use Rattle.code.specs.Refusals.{checkRefusal};
 ghost use Rattle.rows.specs.Rows.{mostPlaces, Low, Stored, remainder};
 ghost use Rattle.tables.specs.Tables.{tableSize, Marks};
 ghost use Rattle.patterns.specs.Patterns.{patterns, Represented};
-ghost use Rattle.filling.specs.Filling.{Fillable, FilledRun, Filled, InLayers, Below};
+ghost use Rattle.filling.specs.Filling.{Fillable, FilledRun, Filled, InLayers};
 ghost use Rattle.checking.specs.Promises.{checkedBy, Checks};
-ghost use Rattle.checking.specs.Steps.{MetTo};
+ghost use Rattle.checking.specs.Steps.{HeldTo, MetTo};
 
 // What the check answers: "sound, or the first unmet equation by layer, then a, then t".
 pub enum Checked {
@@ -171,7 +171,7 @@ fn runs_met(
     nodes: &[u16],
 ) -> usize
     requires { ⌜ (shapeBad s ≡ false) × Fillable (s .n) (size s) (now list) (now nodes) × Marks (s .n) (now list) marked × (few ≡ true → Represented (s .n) marked (now list) (s .n) (now source)) ⌝ }
-    ensures { λ to. ⌜ (to ≤ 2 ^ s .n) × Filled (s .n) (size s) (now (list .entry)) (Below (s .n) to) (now (nodes .entry)) (now (nodes .entry)) ⌝ }
+    ensures { λ to. ⌜ HeldTo s (now (list .entry)) (now (nodes .entry)) to ⌝ }
 {
     let n = s.n;
     let two = two_to(n);
@@ -198,7 +198,7 @@ fn runs_met(
 // Likewise, with few multipliers worked out first, to pick from.
 fn met_from_few(s: Shape, list: &[usize], marked: [bool; MOST_NODES], nodes: &[u16]) -> usize
     requires { ⌜ (shapeBad s ≡ false) × Fillable (s .n) (size s) (now list) (now nodes) × Marks (s .n) (now list) marked × (patterns marked (s .n) ≤ mostPlaces) ⌝ }
-    ensures { λ to. ⌜ (to ≤ 2 ^ s .n) × Filled (s .n) (size s) (now (list .entry)) (Below (s .n) to) (now (nodes .entry)) (now (nodes .entry)) ⌝ }
+    ensures { λ to. ⌜ HeldTo s (now (list .entry)) (now (nodes .entry)) to ⌝ }
 {
     let n = s.n;
     let mut source = [0u16; TABLE];
@@ -209,7 +209,7 @@ fn met_from_few(s: Shape, list: &[usize], marked: [bool; MOST_NODES], nodes: &[u
 // Likewise, where multipliers pay: with places enough, picked from few or for two layers or more. None where they do not.
 fn listed_met(s: Shape, list: &[usize], nodes: &[u16]) -> usize
     requires { ⌜ (shapeBad s ≡ false) × Fillable (s .n) (size s) (now list) (now nodes) ⌝ }
-    ensures { λ to. ⌜ (to ≤ 2 ^ s .n) × Filled (s .n) (size s) (now (list .entry)) (Below (s .n) to) (now (nodes .entry)) (now (nodes .entry)) ⌝ }
+    ensures { λ to. ⌜ HeldTo s (now (list .entry)) (now (nodes .entry)) to ⌝ }
 {
     let n = s.n;
     let layers = s.layers;

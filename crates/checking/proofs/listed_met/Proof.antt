@@ -4,7 +4,7 @@ use mathlib.Core.Bool.{true≢false}
 use native.Mathlib.Omega.{arith}
 use borrow.Author.Needs.{needs}
 use Rattle.shape.proofs.Accepted.{shape-accepted}
-use Rattle.filling.proofs.Filling.{filled-none}
+use Rattle.checking.proofs.Meeting.{held-none}
 use Rattle.checking.proofs.listed_met.Statement.{statement}
 use Rattle.checking.proofs.listed_met.Tie as tie
 
@@ -12,7 +12,7 @@ add-if1 : tie.Need-add-if1
 add-if1 c = let w = shape-accepted _ (c .before .before .pre .0) in omega (arith, w .n-high, w .layers-high)
 
 returns : tie.Need-returns
-returns c = (search needs, filled-none _ _ _ _ _ (λ p h d. absurd (omega (arith, d))))
+returns c = held-none _ _ _
 
 marks-requires : tie.Need-marks-requires
 marks-requires c κs = shape-accepted _ (c .before .before .before .pre .0) .n-high
@@ -27,7 +27,7 @@ met-from-few-requires c κs =
     (s .pre .0, s .pre .1, m .marks .ensures, c .before .pays .ensures (c .if2 .taken))
 
 returns-3 : tie.Need-returns-3
-returns-3 c = (search needs, filled-none _ _ _ _ _ (λ p h d. absurd (omega (arith, d))))
+returns-3 c = held-none _ _ _
 
 runs-met-requires : tie.Need-runs-met-requires
 runs-met-requires c κs =

@@ -6,7 +6,7 @@ use lib.Seq.{length-take-le}
 use Rattle.shape.specs.Shape.{mostNodes}
 use Rattle.code.proofs.Accepted.{check-accepted}
 use Rattle.code.proofs.Writing.{first-nodes}
-use Rattle.checking.proofs.Meeting.{check-shape, checkable-fillable, filled-met}
+use Rattle.checking.proofs.Meeting.{check-shape, checkable-fillable, held-met}
 use Rattle.checking.proofs.rows_met.Statement.{statement}
 use Rattle.checking.proofs.rows_met.Tie as tie
 
@@ -27,8 +27,7 @@ listed-met-requires c κs =
 returns : tie.Need-returns
 returns c =
     let b = c .before .before in
-    let w = rw (first-nodes _ (few b)) at (c .listed-met .ensures) in
-    filled-met _ _ (b .before .pre) _ (w .0) (w .1)
+    held-met _ _ (b .before .pre) _ (rw (first-nodes _ (few b)) at (c .listed-met .ensures))
 
 pub rows-met-spec : {M : Type 1} → statement M
 rows-met-spec = tie.close (tie.spec array-share-prefix-all slice-aggregate-listed-met listed-met-requires returns)

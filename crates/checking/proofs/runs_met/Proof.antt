@@ -14,6 +14,7 @@ use Rattle.rows.proofs.Rows.{low-replicate}
 use Rattle.tables.specs.Tables.{tableSize}
 use Rattle.filling.specs.Filling.{Filled, Below}
 use Rattle.filling.proofs.Filling.{blocks-none, blocks-more}
+use Rattle.checking.specs.Steps.{HeldTo}
 use Rattle.checking.proofs.runs_met.Statement.{statement}
 use Rattle.checking.proofs.runs_met.Tie as tie
 
@@ -69,19 +70,22 @@ layers-met-requires c κs =
     (s .pre .0, s .pre .1, s .pre .2, s .pre .3, l .before .run-of .ensures .1, block-room (c .before), l .loop .inv .2, l .loop .inv .3)
 
 -- so what was passed is there, up to the number that is returned
-met-to : (c : tie.At-loop Inv-loop μ-loop) →
+held : (c : tie.At-loop Inv-loop μ-loop) →
     let s = c .before .before .before .before .before .before .args in
-    (c .loop .block * c .before .run-of .result ≤ 2 ^ s .s .n) × Filled (s .s .n) (size (s .s)) (s .list .now) (Below (s .s .n) (c .loop .block * c .before .run-of .result)) (s .nodes .now) (s .nodes .now)
+    HeldTo (s .s) (s .list .now) (s .nodes .now) (c .loop .block * c .before .run-of .result)
 unfolding size
-met-to c = (omega (arith, blocks c, mul-le-mul-right (c .before .run-of .result) (c .loop .inv .0), ap (λ k. k * c .before .run-of .result) (c .loop .inv .1)), c .loop .inv .4)
+held c = record {
+  high = omega (arith, blocks c, mul-le-mul-right (c .before .run-of .result) (c .loop .inv .0), ap (λ k. k * c .before .run-of .result) (c .loop .inv .1));
+  held = c .loop .inv .4;
+}
 
 mul-result : tie.Need-mul-result Inv-loop μ-loop
 mul-result c =
     let l = c .before .before .before .before .before in
-    omega (arith, met-to l .0, shape-accepted _ (l .before .before .before .before .before .before .pre .0) .places-high)
+    omega (arith, held l .high, shape-accepted _ (l .before .before .before .before .before .before .pre .0) .places-high)
 
 returns : tie.Need-returns Inv-loop μ-loop
-returns c = met-to (c .before .before .before .before .before)
+returns c = held (c .before .before .before .before .before)
 
 add-block : tie.Need-add-block Inv-loop μ-loop
 add-block c =
@@ -107,7 +111,7 @@ returns-2 c =
     let run = l .before .run-of .result in
     let e : l .loop .block ≡ l .before .before .two-to .result / run = omega arith in
     let z : l .loop .block * run ≡ l .before .before .two-to .result = ap (λ k. k * run) e ∙ blocks l ∙ sym (l .before .before .two-to .ensures) in
-    rw z at (met-to l)
+    rw z at (held l)
 
 pub runs-met-spec : {M : Type 1} → statement M
 runs-met-spec =
