@@ -26,7 +26,7 @@ ghost use Rattle.patterns.specs.Patterns.{patterns, Represented};
 ghost use Rattle.filling.specs.Filling.{Summable, Summed, Fillable, FilledRun, Filled, InLayers, Everywhere};
 
 // The sums, at a run of places, of the symbols in some rows of a buffer, each times its multiplier: those of the table's rows from `first` on.
-fn sum_row(
+pub fn sum_row(
     run: usize,
     each: usize,
     place: usize,
@@ -109,7 +109,7 @@ fn fill_layers(
 }
 
 // The places of a run: those of a layer where they are few.
-fn run_of(n: usize) -> usize
+pub fn run_of(n: usize) -> usize
     requires { ⌜ n ≤ mostNodes ⌝ }
     ensures { λ run. ⌜ (0 < run) × (run ≤ mostPlaces) × (2 ^ n / run * run ≡ 2 ^ n) ⌝ }
 {
