@@ -2,6 +2,7 @@
 use code::gathered;
 use code::points_at;
 use column::parity;
+use filling::NODES;
 use filling::run_of;
 use filling::sum_row;
 use patterns::pays;
@@ -226,9 +227,6 @@ fn listed_met(s: Shape, list: &[usize], nodes: &[u16]) -> usize
     let none = [0u16; 1];
     runs_met(s, list, marked, false, &none, nodes)
 }
-
-// The node numbers, of which the first k are the data nodes.
-const NODES: [usize; MOST_NODES] = [0, 1, 2, 3, 4, 5, 6, 7, 8, 9, 10, 11];
 
 // How many a have all their equations met, in every layer: nodes k to n-1 hold there what would be filled in from nodes 0 to k-1.
 fn rows_met(s: Shape, nodes: &[u16]) -> usize

@@ -25,6 +25,9 @@ ghost use Rattle.tables.specs.Tables.{tableSize, Marks, Table};
 ghost use Rattle.patterns.specs.Patterns.{patterns, Represented};
 ghost use Rattle.filling.specs.Filling.{Summable, Summed, Fillable, FilledRun, Filled, InLayers, Everywhere};
 
+// The node numbers, of which the first k are the data nodes.
+pub const NODES: [usize; MOST_NODES] = [0, 1, 2, 3, 4, 5, 6, 7, 8, 9, 10, 11];
+
 // The sums, at a run of places, of the symbols in some rows of a buffer, each times its multiplier: those of the table's rows from `first` on.
 pub fn sum_row(
     run: usize,
