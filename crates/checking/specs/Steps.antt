@@ -6,12 +6,6 @@ use Rattle.shape.specs.declared.Shape.{Shape}
 use Rattle.shape.specs.Shape.{size}
 use Rattle.code.specs.Code.{narrow}
 use Rattle.code.specs.Archive.{equation}
-use Rattle.filling.specs.Filling.{Filled, Below}
-
--- in every layer, the nodes that are not listed hold at the a below `to` what would be filled in from those that are
-pub record HeldTo (s : Shape) (list nodes : List ℕ) (to : ℕ) : Type 0 where
-  pub high : to ≤ 2 ^ s .n
-  pub held : Filled (s .n) (size s) list (Below (s .n) to) nodes nodes
 
 -- in every layer, all equations at the a below `to` are met
 pub record MetTo (s : Shape) (nodes : List ℕ) (to : ℕ) : Type 0 where

@@ -1,14 +1,14 @@
--- `checking::same_row` meets its contract. Assumes nothing.
+-- `comparing::same_row` meets its contract. Assumes nothing.
 use mathlib.Core.Path.{_≡_}
 use mathlib.Core.Bool.{true}
 use Prim.Native.Nat.{_+_, _-_, _≤_}
 use native.Mathlib.Omega.{arith}
 use Rattle.rows.specs.Rows.{Stored, remainder}
 use Rattle.rows.proofs.Rows.{stored-none}
-use Rattle.checking.proofs.Meeting.{same-more}
+use Rattle.comparing.proofs.Comparing.{same-more}
 use borrow.Author.Needs.{needs}
-use Rattle.checking.proofs.same_row.Statement.{statement}
-use Rattle.checking.proofs.same_row.Tie as tie
+use Rattle.comparing.proofs.same_row.Statement.{statement}
+use Rattle.comparing.proofs.same_row.Tie as tie
 
 abbrev Inv-loop : tie.InvT-loop
 Inv-loop q run at symbols sums same₀ i₀ same i = (i ≤ run) × (same ≡ true → Stored at i (remainder q sums) symbols symbols)

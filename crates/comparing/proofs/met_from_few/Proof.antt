@@ -1,11 +1,11 @@
--- `checking::met_from_few` meets its contract. Assumes nothing.
+-- `comparing::met_from_few` meets its contract. Assumes nothing.
 use native.Mathlib.Omega.{arith}
 use borrow.Author.Needs.{needs}
 use Rattle.shape.proofs.Accepted.{shape-accepted}
 use Rattle.rows.proofs.Rows.{low-replicate}
 use Rattle.tables.specs.Tables.{tableSize}
-use Rattle.checking.proofs.met_from_few.Statement.{statement}
-use Rattle.checking.proofs.met_from_few.Tie as tie
+use Rattle.comparing.proofs.met_from_few.Statement.{statement}
+use Rattle.comparing.proofs.met_from_few.Tie as tie
 
 represent-requires : tie.Need-represent-requires
 represent-requires c κs =

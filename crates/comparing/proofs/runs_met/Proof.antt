@@ -1,4 +1,4 @@
--- `checking::runs_met` meets its contract: what would be filled in at the a passed is there already. Assumes nothing.
+-- `comparing::runs_met` meets its contract: what would be filled in at the a passed is there already. Assumes nothing.
 use mathlib.Core.Path.{_≡_, refl, sym, ap, _∙_}
 use Prim.Native.Nat.{_+_, _-_, _*_, _/_, _^_, _≤_}
 use native.Mathlib.Nat.{mul-le-mul-right, div-le-self}
@@ -14,9 +14,9 @@ use Rattle.rows.proofs.Rows.{low-replicate}
 use Rattle.tables.specs.Tables.{tableSize}
 use Rattle.filling.specs.Filling.{Filled, Below}
 use Rattle.filling.proofs.Filling.{blocks-none, blocks-more}
-use Rattle.checking.specs.Steps.{HeldTo}
-use Rattle.checking.proofs.runs_met.Statement.{statement}
-use Rattle.checking.proofs.runs_met.Tie as tie
+use Rattle.comparing.specs.Comparing.{HeldTo}
+use Rattle.comparing.proofs.runs_met.Statement.{statement}
+use Rattle.comparing.proofs.runs_met.Tie as tie
 
 abbrev Inv-loop : tie.InvT-loop
 Inv-loop s list marked few source nodes n two run table₀ block₀ block-end table block = (block ≤ block-end) × (block-end ≡ two / run) × (length table ≡ tableSize) × Low (narrow .modulus) table

@@ -1,12 +1,12 @@
--- `checking::listed_met` meets its contract. Assumes nothing.
+-- `comparing::listed_met` meets its contract. Assumes nothing.
 use mathlib.Core.Path.{sym}
 use mathlib.Core.Bool.{true≢false}
 use native.Mathlib.Omega.{arith}
 use borrow.Author.Needs.{needs}
 use Rattle.shape.proofs.Accepted.{shape-accepted}
-use Rattle.checking.proofs.Meeting.{held-none}
-use Rattle.checking.proofs.listed_met.Statement.{statement}
-use Rattle.checking.proofs.listed_met.Tie as tie
+use Rattle.comparing.proofs.Comparing.{held-none}
+use Rattle.comparing.proofs.listed_met.Statement.{statement}
+use Rattle.comparing.proofs.listed_met.Tie as tie
 
 add-if1 : tie.Need-add-if1
 add-if1 c = let w = shape-accepted _ (c .before .before .pre .0) in omega (arith, w .n-high, w .layers-high)

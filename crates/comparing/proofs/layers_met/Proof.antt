@@ -1,4 +1,4 @@
--- `checking::layers_met` meets its contract: what would be filled in at the layers passed is there already. Assumes nothing.
+-- `comparing::layers_met` meets its contract: what would be filled in at the layers passed is there already. Assumes nothing.
 use mathlib.Core.Path.{_≡_, sym, subst}
 use mathlib.Core.Bool.{true≢false}
 use Prim.Native.Nat.{_+_, _-_, _*_, _^_, _≤_}
@@ -11,8 +11,8 @@ use Rattle.shape.specs.Shape.{mostNodes, mostLayers, size}
 use Rattle.shape.proofs.Accepted.{shape-accepted}
 use Rattle.filling.specs.Filling.{Filled, InLayers}
 use Rattle.filling.proofs.Filling.{run-filled, layers-none, layers-more}
-use Rattle.checking.proofs.layers_met.Statement.{statement}
-use Rattle.checking.proofs.layers_met.Tie as tie
+use Rattle.comparing.proofs.layers_met.Statement.{statement}
+use Rattle.comparing.proofs.layers_met.Tie as tie
 
 abbrev Inv-loop : tie.InvT-loop
 Inv-loop a run list marked few source table nodes n layers two layer₀ layer = (layer ≤ layers) × Filled n (layers * 2 ^ n) list (InLayers n a run layer) nodes nodes

@@ -1,4 +1,4 @@
--- `checking::run_met` meets its contract: what would be filled in at the nodes passed is there already. Assumes nothing.
+-- `comparing::run_met` meets its contract: what would be filled in at the nodes passed is there already. Assumes nothing.
 use mathlib.Core.Path.{_≡_, sym, _∙_, subst}
 use mathlib.Core.Bool.{true≢false}
 use Prim.Native.Nat.{_+_, _-_, _*_, _≤_}
@@ -8,8 +8,8 @@ use borrow.Author.Tests.{not-false}
 use lib.ListN.{length}
 use Rattle.filling.specs.Filling.{FilledRun}
 use Rattle.filling.proofs.Filling.{filled-run-none, filled-run-skip, filled-run-more, fill-summable, table-room, row-room}
-use Rattle.checking.proofs.run_met.Statement.{statement}
-use Rattle.checking.proofs.run_met.Tie as tie
+use Rattle.comparing.proofs.run_met.Statement.{statement}
+use Rattle.comparing.proofs.run_met.Tie as tie
 
 abbrev Inv-loop : tie.InvT-loop
 Inv-loop n each place run list table nodes marked i₀ i = (i ≤ n) × FilledRun n each place run list table i nodes nodes
