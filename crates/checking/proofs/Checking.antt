@@ -1,16 +1,16 @@
 -- The search of the check: what it has passed, what it answers, and what the answer tells.
 use mathlib.Core.Path.{_≡_, refl, sym, ap, ap₂, _∙_}
-use mathlib.Core.Logic.{_≢_, _↔_}
+use mathlib.Core.Logic.{_≢_, _↔_, _⊎_, inl, inr}
 use mathlib.Core.Bool.{Bool, true, false, cond}
 use mathlib.Core.List.{List, []}
-use Prim.Native.Nat.{ℕ, _+_, _-_, _*_, _/_, _%_, _^_, _<_}
+use Prim.Native.Nat.{ℕ, _+_, _-_, _*_, _/_, _%_, _^_, _<_, _≤_}
 use native.Mathlib.Decide.{ℕ-discrete}
 use native.Mathlib.Omega.{arith}
 use borrow.Author.Count.{below-more}
 use borrow.Author.Tests.{eq-eqb, ne-eqb}
 use lib.Dec.{eqb}
 use lib.Arith.{digits-lt, digits-div, digits-mod}
-use Rattle.lists.proofs.Tests.{cond-equal, cond-unequal}
+use Rattle.lists.proofs.Tests.{below-or-not, cond-equal, cond-unequal}
 use Rattle.lists.proofs.Firsts.{first-none, first-found}
 use Rattle.lists.proofs.Places.{Place, place-of}
 use Rattle.shape.specs.declared.Shape.{Shape}
@@ -24,6 +24,7 @@ use Rattle.code.specs.Code.{narrow}
 use Rattle.code.specs.Archive.{equation, unmet, firstUnmet}
 use Rattle.code.specs.Refusals.{checkRefusal}
 use Rattle.checking.specs.Promises.{checkedNumber, checkedValues, checkedBy, Checks, equationNumber, FirstUnmet}
+use Rattle.checking.specs.Steps.{MetTo}
 use Rattle.code.proofs.Accepted.{sound-iff}
 use Rattle.code.proofs.Unmet.{unmet-upto, unmet-first}
 
@@ -46,6 +47,21 @@ module _ (s : Shape) (nodes : List ℕ) where
   pub met-more : (place t : ℕ) → t < s .n - s .k → MetBelow (place * (s .n - s .k) + t) → equation narrow s nodes place t ≡ 0
       → MetBelow (place * (s .n - s .k) + (t + 1))
   met-more place t h before e x l = below-more _ _ before (met-at place t h e) x (omega arith)
+
+  -- those at the a below `to`, which are met in every layer
+  pub met-skip : (layer to : ℕ) → layer < s .layers → MetTo s nodes to → MetBelow (layer * 2 ^ s .n * (s .n - s .k)) → MetBelow ((layer * 2 ^ s .n + to) * (s .n - s .k))
+  unfolding size
+  met-skip layer to h w before x l = go (place-of (layer * 2 ^ s .n + to) r x l) (below-or-not (x / r) (layer * 2 ^ s .n))
+    where
+      go : Place (layer * 2 ^ s .n + to) (s .n - s .k) x → (x / (s .n - s .k) < layer * 2 ^ s .n) ⊎ (layer * 2 ^ s .n ≤ x / (s .n - s .k)) → unmet narrow s nodes x ≡ false
+      go p (inl g) = before x (rw (← p .whole) (digits-lt g (p .place)))
+      go p (inr g) =
+          let a = x / r - layer * 2 ^ s .n in
+          let e : x / r ≡ layer * 2 ^ s .n + a = omega arith in
+          let b : a < to = omega (arith, p .row) in
+          let d : a < 2 ^ s .n = omega (arith, w .high) in
+          let m : x / r % 2 ^ s .n < to = rw (ap (λ k. k % 2 ^ s .n) e ∙ digits-mod layer d) b in
+          ap (unmet narrow s nodes) (sym (p .whole)) ∙ met-at (x / r) (x % r) (p .place) (w .met (x / r) (x % r) (rw e (digits-lt h d)) m (p .place))
 
   unmet-at : (place t : ℕ) → t < s .n - s .k → equation narrow s nodes place t ≢ 0 → unmet narrow s nodes (place * (s .n - s .k) + t) ≡ true
   unfolding unmet

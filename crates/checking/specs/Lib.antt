@@ -1,2 +1,3 @@
 -- What the check answers, and what is promised of it.
 pub mod Promises
+pub mod Steps

@@ -2,6 +2,8 @@
 use code::gathered;
 use code::points_at;
 use column::parity;
+use comparing::listed_met;
+use filling::NODES;
 use shape::Answer;
 use shape::MODULUS;
 use shape::Refusal;
@@ -16,6 +18,7 @@ ghost use Rattle.code.specs.Code.{narrow};
 ghost use Rattle.code.specs.Archive.{firstUnmet};
 ghost use Rattle.code.specs.Refusals.{checkRefusal};
 ghost use Rattle.checking.specs.Promises.{checkedBy, Checks};
+ghost use Rattle.checking.specs.Steps.{MetTo};
 
 // What the check answers: "sound, or the first unmet equation by layer, then a, then t".
 pub enum Checked {
@@ -41,9 +44,10 @@ fn judge_check(s: Shape, nodes: &[u16]) -> Answer
     Answer::Done
 }
 
-// The first equation whose sum is not 0. The points and the column of a place serve all its equations.
-fn first_unmet(s: Shape, nodes: &[u16]) -> Checked
-    requires { ⌜ checkRefusal narrow s (now nodes) ≡ 0 ⌝ }
+// The first equation whose sum is not 0, where all those at the a below `from` are met. The points and the column of a place serve all
+// its equations.
+fn first_unmet(s: Shape, nodes: &[u16], from: usize) -> Checked
+    requires { ⌜ (checkRefusal narrow s (now nodes) ≡ 0) × MetTo s (now nodes) from ⌝ }
     ensures { λ found. ⌜ found ≡ checkedBy s (firstUnmet narrow s (now (nodes .entry))) ⌝ }
 {
     let n = s.n;
@@ -53,7 +57,7 @@ fn first_unmet(s: Shape, nodes: &[u16]) -> Checked
     let r = n - k;
     let mut found = Checked::Sound;
     'equations: for layer in 0..layers {
-        for a in 0..two {
+        for a in from..two {
             let points = points_at(n, a);
             let column = gathered(nodes, n, layers * two, layer * two + a);
             let sums = parity(MODULUS, r, &points[..n], &column[..n]);
@@ -68,12 +72,22 @@ fn first_unmet(s: Shape, nodes: &[u16]) -> Checked
     found
 }
 
+// How many a have all their equations met, in every layer: nodes k to n-1 hold there what would be filled in from nodes 0 to k-1.
+fn rows_met(s: Shape, nodes: &[u16]) -> usize
+    requires { ⌜ checkRefusal narrow s (now nodes) ≡ 0 ⌝ }
+    ensures { λ to. ⌜ MetTo s (now (nodes .entry)) to ⌝ }
+{
+    let k = s.k;
+    let all = NODES;
+    listed_met(s, &all[..k], nodes)
+}
+
 // The check of all n nodes.
 pub fn check(s: Shape, nodes: &[u16]) -> Checked
     ensures { λ answer. ⌜ Checks s (now (nodes .entry)) answer ⌝ }
 {
     match judge_check(s, nodes) {
         Answer::Refused(cause) => Checked::Refused(cause),
-        Answer::Done => first_unmet(s, nodes),
+        Answer::Done => first_unmet(s, nodes, rows_met(s, nodes)),
     }
 }

@@ -4,15 +4,14 @@ use mathlib.Core.Logic.{_≢_, _⊎_, inl, inr}
 use mathlib.Core.Bool.{true, false, true≢false}
 use mathlib.Core.List.{List}
 use Prim.Native.Nat.{ℕ, _+_, _-_, _*_, _/_, _%_, _^_, _<_, _≤_}
-use native.Mathlib.Nat.{mul-le-mul-right, div-add-mod', mod-lt}
+use native.Mathlib.Nat.{mul-le-mul-right, mod-lt}
 use native.Mathlib.Decide.{ℕ-discrete}
 use native.Mathlib.Omega.{arith}
-use lib.Arith.{digits-div, digits-mod}
+use lib.Arith.{digits-mod}
 use lib.ListN.{length, getD}
 use lib.Pow.{pow-mono, pow-add}
 use Rattle.lists.specs.Lists.{member, rising}
 use Rattle.lists.proofs.Tests.{below-or-not}
-use Rattle.lists.proofs.Places.{place-of}
 use Rattle.lists.proofs.Members.{member-of, rising-below}
 use Rattle.lists.proofs.Others.{rising-fits}
 use Rattle.lists.proofs.Sums.{sum-ext}

@@ -7,6 +7,7 @@ use rows::RUN;
 use rows::add_products;
 use rows::store;
 use shape::MODULUS;
+use shape::MOST_NODES;
 use shape::Shape;
 use shape::two_to;
 use tables::ENTRIES;
@@ -14,16 +15,18 @@ use tables::TABLE;
 use tables::marks;
 ghost use mathlib.Core.Path.{_≡_};
 ghost use mathlib.Core.Bool.{true, false};
-ghost use Prim.Native.Nat.{ℕ, _+_, _*_, _/_, _^_, _<_, _≤_};
-ghost use lib.ListN.{length, getD};
-ghost use Rattle.lists.specs.Lists.{member, rising};
+ghost use Prim.Native.Nat.{_+_, _*_, _/_, _^_, _<_, _≤_};
+ghost use lib.ListN.{length};
 ghost use Rattle.shape.specs.Shape.{mostNodes, size};
 ghost use Rattle.shape.specs.Refusals.{shapeBad};
 ghost use Rattle.code.specs.Code.{narrow};
 ghost use Rattle.rows.specs.Rows.{mostPlaces, Low};
-ghost use Rattle.tables.specs.Tables.{tableSize, Marks, Table};
+ghost use Rattle.tables.specs.Tables.{tableSize, Marks};
 ghost use Rattle.patterns.specs.Patterns.{patterns, Represented};
 ghost use Rattle.filling.specs.Filling.{Summable, Summed, Fillable, FilledRun, Filled, InLayers, Everywhere};
+
+// The node numbers, of which the first k are the data nodes.
+pub const NODES: [usize; MOST_NODES] = [0, 1, 2, 3, 4, 5, 6, 7, 8, 9, 10, 11];
 
 // The sums, at a run of places, of the symbols in some rows of a buffer, each times its multiplier: those of the table's rows from `first` on.
 pub fn sum_row(
@@ -109,7 +112,7 @@ fn fill_layers(
 }
 
 // The places of a run: those of a layer where they are few.
-fn run_of(n: usize) -> usize
+pub fn run_of(n: usize) -> usize
     requires { ⌜ n ≤ mostNodes ⌝ }
     ensures { λ run. ⌜ (0 < run) × (run ≤ mostPlaces) × (2 ^ n / run * run ≡ 2 ^ n) ⌝ }
 {

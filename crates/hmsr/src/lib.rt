@@ -184,7 +184,7 @@ pub extern "C" fn hmsr_unpack(card: &[u8], symbols: &mut [u16], header: &mut [us
     ensures { λ r. ⌜ UnpackReturned (now (card .entry)) (now (symbols .entry)) (now (symbols .exit)) (now (header .entry)) (now (header .exit)) r ⌝ }
 {
     let room = unpack_room(header.len(), symbols.len());
-    match card::unpack(card, &mut symbols[..room]) {
+    match unpacking::unpack(card, &mut symbols[..room]) {
         Unpacked::Refused(cause) => number_of(cause),
         Unpacked::Header(read) => {
             store_header(read, header);

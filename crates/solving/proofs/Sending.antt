@@ -1,14 +1,13 @@
 -- At the end of a first step: the own pairs, and the messages of sums.
-use mathlib.Core.Path.{_≡_, refl, sym, ap, ap₂, _∙_}
+use mathlib.Core.Path.{_≡_, refl, sym, ap, _∙_}
 use mathlib.Core.Logic.{_≢_, _⊎_, inl, inr}
-use mathlib.Core.Bool.{Bool, true, false}
+use mathlib.Core.Bool.{Bool, false}
 use mathlib.Core.List.{List}
 use Prim.Native.Nat.{ℕ, zero, suc, _+_, _*_, _-_, _/_, _%_, _≤_, _<_}
 use native.Mathlib.Decide.{ℕ-discrete}
 use native.Mathlib.Omega.{arith}
 use lib.ListN.{length, getD}
 use lib.Seq.{ext-getD}
-use Rattle.lists.specs.Lists.{flat}
 use Rattle.lists.specs.Sums.{sum}
 use Rattle.lists.proofs.Tests.{cond-below, cond-beyond, below-or-not}
 use Rattle.lists.proofs.Flats.{flat-length, flat-at}
@@ -19,7 +18,7 @@ use Rattle.code.specs.Code.{narrow}
 use Rattle.rows.specs.Rows.{mostPlaces, Stored, remainder}
 use Rattle.filling.specs.Filling.{term, Summed, InRun}
 use Rattle.classes.specs.Classes.{node, messageSize}
-use Rattle.classes.specs.Steps.{place, otherRank, solved, ownPair, ownPairs, exchangeAt, exchange, exchangeTo, exchanges}
+use Rattle.classes.specs.Steps.{place, otherRank, ownPair, ownPairs, exchangeAt, exchange, exchangeTo, exchanges}
 use Rattle.solving.specs.Solving.{slotOf, rowSum, Put, Other, slotPlace, handedSum, handed, HandedOut, ownEntry, own, Owned, pairPlace}
 use Rattle.classes.proofs.FirstStep.{exchange-length, pairs-at}
 use Rattle.solving.proofs.Slots.{slot-symbol-own}

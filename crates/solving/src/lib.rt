@@ -18,7 +18,7 @@ use tables::idle;
 use tables::marks;
 ghost use mathlib.Core.Path.{_≡_};
 ghost use mathlib.Core.Bool.{true, false};
-ghost use Prim.Native.Nat.{ℕ, _+_, _-_, _*_, _/_, _^_, _≤_, _<_};
+ghost use Prim.Native.Nat.{ℕ, _+_, _-_, _*_, _^_, _≤_, _<_};
 ghost use lib.ListN.{length, getD};
 ghost use Rattle.lists.specs.Lists.{element, rising};
 ghost use Rattle.shape.specs.Shape.{mostNodes};
@@ -26,7 +26,7 @@ ghost use Rattle.code.specs.Code.{narrow};
 ghost use Rattle.rows.specs.Rows.{mostPlaces, Low, remainder};
 ghost use Rattle.tables.specs.Tables.{tableSize};
 ghost use Rattle.filling.specs.Filling.{Summable, InRun, InLayers};
-ghost use Rattle.classes.specs.Classes.{batch, node, rankClass, members, messageSize};
+ghost use Rattle.classes.specs.Classes.{node, rankClass, members, messageSize};
 ghost use Rattle.classes.specs.Layout.{Ready, Listed};
 ghost use Rattle.solving.specs.Solving.{slotOf, slots, Helped, FirstDone, Gathered, rowSum, Multiplied, Spread, Places, Put, Other, slotPlace, handedSum, HandedOut, Owned, pairPlace};
 

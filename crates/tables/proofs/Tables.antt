@@ -2,27 +2,26 @@
 use mathlib.Core.Path.{_≡_, refl, sym, ap, ap₂, _∙_}
 use mathlib.Core.Bool.{Bool, true, false, _||_, true≢false}
 use mathlib.Core.List.{List}
-use Prim.Native.Nat.{ℕ, _+_, _*_, _-_, _%_, _<_, _≤_}
-use native.Mathlib.Nat.{mod-lt, mul-le-mul, mul-le-mul-right}
+use Prim.Native.Nat.{ℕ, _+_, _*_, _%_, _<_, _≤_}
+use native.Mathlib.Nat.{mod-lt, mul-le-mul}
 use native.Mathlib.Numerals.{add-one}
 use native.Mathlib.Decide.{ℕ-discrete}
 use native.Mathlib.Omega.{arith}
 use lib.Arith.{digits-lt}
 use lib.Dec.{eqb}
 use lib.ListN.{length, getD, replicate, length-replicate, getD-replicate}
-use Rattle.lists.specs.Lists.{element, member, rising}
-use Rattle.lists.proofs.Members.{rising-below}
+use Rattle.lists.specs.Lists.{element, rising}
 use Rattle.field.specs.Residues.{Prime, minus, inverse}
 use Rattle.inverting.specs.Inverses.{Pivots}
 use Rattle.shape.specs.Shape.{mostNodes}
-use Rattle.code.specs.Code.{narrow, point, points, GoodCode}
+use Rattle.code.specs.Code.{narrow, GoodCode}
 use Rattle.code.proofs.NodePoints.{good-fewer, points-length, points-at, points-good, more-length, more-at, more-behind, more-good}
 use Rattle.code.proofs.Narrow.{narrow-good}
 use Rattle.rows.specs.Rows.{mostPlaces, Low, Stored, scaled, quotient}
 use Rattle.rows.proofs.Rows.{stored-low, low-replicate}
 use Rattle.multipliers.specs.Multipliers.{leftOut, differences, multiplier}
 use Rattle.multipliers.proofs.Multipliers.{differences-none, differences-left, differences-next, divisor-nonzero, inverse-only}
-use Rattle.tables.specs.Tables.{pointsSize, tableSize, pointOf, oppositeOf, nodePoints, entryPoints, PointRows, Columns, Marks, DifferenceRow, RowOver, RowsOver, TableOver, TableOf}
+use Rattle.tables.specs.Tables.{pointsSize, tableSize, pointOf, oppositeOf, nodePoints, entryPoints, PointRows, Columns, Marks, DifferenceRow, RowOver, RowsOver, TableOver}
 
 abbrev q : ℕ
 q = narrow .modulus

@@ -2,11 +2,11 @@
 use mathlib.Core.Path.{_≡_, refl, sym, ap, ap₂, _∙_}
 use mathlib.Core.Bool.{Bool, true, false, cond}
 use mathlib.Core.List.{List}
-use Prim.Native.Nat.{ℕ, zero, suc, _+_, _*_, _-_, _/_, _%_, _^_, _≤_, _<_}
+use Prim.Native.Nat.{ℕ, zero, suc, _+_, _*_, _^_, _≤_, _<_}
 use native.Mathlib.Nat.{mod-eq-of-lt, div-eq-of-lt, mul-le-mul-right}
 use native.Mathlib.Omega.{arith}
 use lib.Dec.{eqb}
-use lib.ListN.{length, getD, take, drop}
+use lib.ListN.{length, getD}
 use lib.Seq.{getD-drop}
 use Rattle.lists.specs.Lists.{element}
 use Rattle.lists.specs.Digits.{flip}
@@ -16,8 +16,8 @@ use Rattle.shape.proofs.Accepted.{shape-accepted}
 use Rattle.code.specs.Code.{narrow}
 use Rattle.filling.specs.Filling.{InRun, InLayers, Below}
 use Rattle.classes.specs.declared.Layout.{Layout}
-use Rattle.classes.specs.Classes.{batch, node, rankClass, partner, members, placeOf, Sum, spot, spotAt, sumAt, sumPlace, placeAt, messageSize}
-use Rattle.classes.specs.Steps.{solved, ownPairs, exchangeAt}
+use Rattle.classes.specs.Classes.{batch, node, rankClass, partner, members, placeOf, Sum, spot, sumAt, sumPlace, placeAt, messageSize}
+use Rattle.classes.specs.Steps.{ownPairs, exchangeAt}
 use Rattle.classes.specs.Layout.{Ready, Listed}
 use Rattle.classes.proofs.Dead.{Dead}
 use Rattle.classes.proofs.Adding.{joined}
@@ -28,7 +28,7 @@ use Rattle.classes.proofs.Passes.{spot-number}
 use Rattle.classes.proofs.Members.{member-is, member-sum, member-number}
 use Rattle.steps.specs.Storing.{sumSymbol, Paired}
 use Rattle.steps.proofs.Storing.{firsts-own, others-own, first-other}
-use Rattle.solving.specs.Solving.{slotOf, Put, slotPlace, handed, HandedOut, own, Owned, Places}
+use Rattle.solving.specs.Solving.{slotPlace, handed, own, Places}
 use Rattle.solving.proofs.Puts.{put-none, put-batch, put-run}
 use Rattle.solving.proofs.Sending.{slots-apart, own-pair}
 use Rattle.wiring.specs.Wires.{inwards, toRank, Wired, Sent, ownPlace, Offsets, OnWire}

@@ -28,7 +28,7 @@ ghost use Rattle.classes.specs.Classes.{rankClass, members, placeAt, messageSiz
 ghost use Rattle.classes.specs.Layout.{Ready, Listed};
 ghost use Rattle.classes.specs.Whole.{fromHelpers};
 ghost use Rattle.solving.specs.Solving.{Multiplied};
-ghost use Rattle.wiring.specs.Wires.{inward, inwards, toRank, Messaged, Wired, Offsets, OnWire, FirstOnWire, Exchanged, Renewed};
+ghost use Rattle.wiring.specs.Wires.{inward, inwards, Messaged, Wired, Offsets, OnWire, FirstOnWire, Exchanged, Renewed};
 
 // The symbols of the helpers' messages to one rank.
 pub fn told_by(g: Layout, dead: &[usize], helpers: &[usize]) -> usize

@@ -1,7 +1,7 @@
 // Writing: the n nodes of an archive from a transcript (demand 2).
+use filling::NODES;
 use filling::fill;
 use shape::Answer;
-use shape::MOST_NODES;
 use shape::Refusal;
 use shape::Shape;
 use shape::shape_bad;
@@ -47,9 +47,6 @@ fn store_data(due: usize, transcript: &[u8], nodes: &mut [u16])
     store_transcript(transcript, nodes);
     clear(bytes, due - bytes, nodes);
 }
-
-// The node numbers, of which the first k are the data nodes.
-const NODES: [usize; MOST_NODES] = [0, 1, 2, 3, 4, 5, 6, 7, 8, 9, 10, 11];
 
 // Causes 1 and 4 of writing into a buffer of `room` symbols, in this order.
 fn judge_write(s: Shape, transcript: &[u8], room: usize) -> Answer

@@ -14,7 +14,7 @@ use Rattle.code.specs.Code.{narrow}
 use Rattle.code.specs.Archive.{equation}
 use Rattle.code.proofs.Accepted.{Checkable, check-accepted}
 use Rattle.checking.proofs.Gathering.{gathered-equation}
-use Rattle.checking.proofs.Checking.{MetBelow, met-more, sound-when, unmet-when}
+use Rattle.checking.proofs.Checking.{MetBelow, met-more, met-skip, sound-when, unmet-when}
 use Rattle.checking.proofs.first_unmet.Statement.{statement}
 use Rattle.checking.proofs.first_unmet.Tie as tie
 
@@ -23,29 +23,29 @@ abbrev shape : ℕ → ℕ → ℕ → Shape
 shape n k layers = record { n = n; k = k; layers = layers }
 
 abbrev Inv-loop2 : tie.InvT-loop2
-Inv-loop2 nodes n k layers two r found₀ layer a sums t₀ found t =
+Inv-loop2 nodes from n k layers two r found₀ layer a sums t₀ found t =
     (found ≡ Sound) × (t ≤ r) × MetBelow (shape n k layers) nodes ((layer * two + a) * r + t)
 
 abbrev μ-loop2 : tie.MeasureT-loop2
-μ-loop2 nodes n k layers two r found₀ layer a sums t₀ found t = r - t
+μ-loop2 nodes from n k layers two r found₀ layer a sums t₀ found t = r - t
 
 abbrev Inv-loop : tie.InvT-loop
-Inv-loop nodes n k layers two r found₀ layer a₀ found a =
+Inv-loop nodes from n k layers two r found₀ layer a₀ found a =
     (found ≡ Sound) × (a ≤ two) × MetBelow (shape n k layers) nodes ((layer * two + a) * r)
 
 abbrev μ-loop : tie.MeasureT-loop
-μ-loop nodes n k layers two r found₀ layer a₀ found a = two - a
+μ-loop nodes from n k layers two r found₀ layer a₀ found a = two - a
 
 abbrev Inv-equations : tie.InvT-equations
-Inv-equations nodes n k layers two r found₀ layer₀ found layer =
+Inv-equations nodes from n k layers two r found₀ layer₀ found layer =
     (found ≡ Sound) × (layer ≤ layers) × MetBelow (shape n k layers) nodes (layer * two * r)
 
 abbrev μ-equations : tie.MeasureT-equations
-μ-equations nodes n k layers two r found₀ layer₀ found layer = layers - layer
+μ-equations nodes from n k layers two r found₀ layer₀ found layer = layers - layer
 
 -- what is known of the input, at the start and inside the second loop
 able : (c : tie.Start Inv-loop2 μ-loop2 Inv-loop μ-loop Inv-equations μ-equations) → Checkable (c .args .s) (c .args .nodes .now)
-able c = check-accepted _ _ (c .pre)
+able c = check-accepted _ _ (c .pre .0)
 
 inner : (c : tie.In-loop Inv-loop2 μ-loop2 Inv-loop μ-loop Inv-equations μ-equations) → let s = c .before .before .before .before .before .before in Checkable (s .args .s) (s .args .nodes .now)
 inner c = able (c .before .before .before .before .before .before)
@@ -71,7 +71,11 @@ equations-holds : tie.Need-equations-holds Inv-loop2 μ-loop2 Inv-loop μ-loop I
 equations-holds c = (refl, search needs, λ x h. absurd (omega arith))
 
 loop-holds : tie.Need-loop-holds Inv-loop2 μ-loop2 Inv-loop μ-loop Inv-equations μ-equations
-loop-holds c = (c .before .equations .inv .0, search needs, λ x h. c .before .equations .inv .2 x (omega arith))
+loop-holds c =
+    let l = c .before .equations in
+    let s = c .before .before .before .before in
+    let two = c .before .before .two-to .ensures in
+    (l .inv .0, rw two (s .pre .1 .high), rw two (met-skip _ _ (l .layer) _ (c .equations-test .taken) (s .pre .1) (rw two at (l .inv .2))))
 
 points-at-requires : tie.Need-points-at-requires Inv-loop2 μ-loop2 Inv-loop μ-loop Inv-equations μ-equations
 points-at-requires c κs = inner c .shaped .n-high

@@ -1,11 +1,10 @@
 -- `solving::first_batches` meets its contract: the sums of the batches passed are done. Assumes nothing.
-use mathlib.Core.Path.{_≡_, refl, sym, ap, subst, _∙_}
+use mathlib.Core.Path.{_≡_, _∙_}
 use mathlib.Core.Bool.{false}
-use Prim.Native.Nat.{ℕ, _+_, _-_, _*_, _≤_, _<_}
+use Prim.Native.Nat.{_+_, _-_, _*_, _≤_}
 use native.Mathlib.Nat.{mul-le-mul-right}
 use native.Mathlib.Omega.{arith}
 use borrow.Author.Needs.{needs}
-use lib.ListN.{length}
 use Rattle.filling.specs.Filling.{InLayers}
 use Rattle.classes.specs.Classes.{messageSize}
 use Rattle.classes.proofs.Layouts.{share-high}

@@ -1,10 +1,10 @@
 -- `solving::first_into` meets its contract: the sums of the members passed are done, in every batch. Assumes nothing.
-use mathlib.Core.Path.{_≡_, refl, sym, ap, _∙_}
+use mathlib.Core.Path.{_≡_, refl, sym, _∙_}
 use mathlib.Core.Bool.{false}
-use Prim.Native.Nat.{ℕ, _+_, _-_, _*_, _^_, _≤_, _<_}
+use Prim.Native.Nat.{ℕ, _-_, _*_, _^_, _≤_, _<_}
 use native.Mathlib.Omega.{arith}
 use borrow.Author.Needs.{needs}
-use lib.ListN.{length, length-replicate}
+use lib.ListN.{length}
 use Rattle.shape.proofs.Accepted.{shape-accepted}
 use Rattle.code.specs.Code.{narrow}
 use Rattle.rows.specs.Rows.{Low}
@@ -12,7 +12,6 @@ use Rattle.rows.proofs.Rows.{low-replicate}
 use Rattle.tables.specs.Tables.{tableSize}
 use Rattle.filling.specs.Filling.{Below}
 use Rattle.classes.specs.Classes.{rankClass, members, messageSize}
-use Rattle.classes.specs.Layout.{Listed}
 use Rattle.classes.proofs.Ranks.{rankClass-le}
 use Rattle.classes.proofs.Members.{members-few}
 use Rattle.solving.specs.Solving.{pairPlace, Owned, HandedOut}

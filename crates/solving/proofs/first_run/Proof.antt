@@ -1,13 +1,11 @@
 -- `solving::first_run` meets its contract. Assumes nothing.
-use mathlib.Core.Path.{_≡_, refl, sym, ap, ap₂, _∙_}
+use mathlib.Core.Path.{_≡_, sym, ap₂, _∙_}
 use mathlib.Core.Bool.{false}
-use Prim.Native.Nat.{ℕ, _+_, _-_, _*_, _≤_, _<_}
+use Prim.Native.Nat.{ℕ, _+_, _*_, _≤_, _<_}
 use native.Mathlib.Omega.{arith}
 use borrow.Author.Needs.{needs}
-use lib.ListN.{length, getD}
-use Rattle.lists.specs.Lists.{element}
-use Rattle.rows.specs.Rows.{mostPlaces}
-use Rattle.classes.specs.Classes.{node, messageSize}
+use lib.ListN.{length}
+use Rattle.classes.specs.Classes.{node}
 use Rattle.classes.proofs.Layouts.{bounded, share-high, node-high}
 use Rattle.solving.specs.Solving.{slots, Places, pairPlace}
 use Rattle.solving.proofs.Entries.{entry-summable, rank-summable, run-handed, run-owned}

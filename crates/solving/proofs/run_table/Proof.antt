@@ -1,6 +1,6 @@
 -- `solving::run_table` meets its contract: the entries that are not skipped are no helper's. Assumes nothing.
-use mathlib.Core.Path.{_≡_, refl, sym, ap, _∙_}
-use Prim.Native.Nat.{ℕ, _+_, _-_, _*_, _^_, _≤_, _<_}
+use mathlib.Core.Path.{_≡_, refl, sym, _∙_}
+use Prim.Native.Nat.{ℕ, _+_, _-_, _^_, _≤_, _<_}
 use native.Mathlib.Nat.{mul-le-mul}
 use native.Mathlib.Numerals.{add-one}
 use native.Mathlib.Omega.{arith}
@@ -11,7 +11,6 @@ use Rattle.lists.proofs.Stores.{stored-more}
 use Rattle.lists.proofs.Members.{rising-more}
 use Rattle.shape.proofs.Accepted.{shape-accepted}
 use Rattle.rows.specs.Rows.{mostPlaces}
-use Rattle.tables.specs.Tables.{tableSize}
 use Rattle.classes.specs.Classes.{node, rankClass}
 use Rattle.classes.proofs.Layouts.{bounded, node-high}
 use Rattle.classes.proofs.Members.{members-few}

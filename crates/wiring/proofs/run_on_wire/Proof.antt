@@ -1,16 +1,16 @@
 -- `wiring::run_on_wire` meets its contract: the run's own symbols and its sums. Assumes nothing.
-use mathlib.Core.Path.{_≡_, refl, sym, ap, ap₂, _∙_}
+use mathlib.Core.Path.{_≡_, sym, ap₂, _∙_}
 use mathlib.Core.Bool.{true}
 use mathlib.Core.List.{List}
-use Prim.Native.Nat.{ℕ, _+_, _-_, _*_, _≤_, _<_}
+use Prim.Native.Nat.{ℕ, _+_, _-_, _*_, _≤_}
 use native.Mathlib.Omega.{arith}
 use borrow.Author.Needs.{needs}
-use lib.ListN.{length, getD, take, drop, length-take, length-drop}
+use lib.ListN.{length, take, drop, length-take, length-drop}
 use Rattle.classes.specs.Classes.{node}
 use Rattle.classes.proofs.Layouts.{bounded, ready-dead, node-high}
 use Rattle.solving.specs.Solving.{slots, Helped}
 use Rattle.solving.proofs.Entries.{entry-summable, rank-summable, run-handed, run-owned}
-use Rattle.wiring.specs.Wires.{inward, toRank, ownPlace}
+use Rattle.wiring.specs.Wires.{toRank, ownPlace}
 use Rattle.wiring.proofs.Parts.{tail-length, tail-front}
 use Rattle.wiring.proofs.OnWire.{Room, wire-room, lent-rank, tail-put}
 use Rattle.wiring.proofs.Passing.{own-apart, own-places}

@@ -1,14 +1,14 @@
--- `card::unpack` meets its contract: it turns back with the first thing judged, or reads the header and then the symbols.
+-- `unpacking::unpack` meets its contract: it turns back with the first thing judged, or reads the header and then the symbols.
 use mathlib.Core.Path.{_≡_, sym, ap, _∙_}
 use borrow.Author.Needs.{needs}
 use lib.ListN.{length}
 use Rattle.shape.specs.Refusals.{answerNumber}
 use Rattle.card.specs.declared.Front.the-variants.{Read}
 use Rattle.numbers.specs.Numbers.{readNumbers}
 use Rattle.card.specs.Cards.{headerCount, frontOf}
 use Rattle.card.proofs.Unpacking.{unpacks-broken, unpacks-header, unpacks-symbols, unpacks-done}
-use Rattle.card.proofs.unpack.Statement.{statement}
-use Rattle.card.proofs.unpack.Tie as tie
+use Rattle.unpacking.proofs.unpack.Statement.{statement}
+use Rattle.unpacking.proofs.unpack.Tie as tie
 
 returns : tie.Need-returns
 returns c = unpacks-broken _ _ _ (sym (c .before .before .read-header .ensures) ∙ c .enum-told .given .1)

@@ -1,10 +1,10 @@
--- `card::read_header` meets its contract: a number more at each place, or the first that is malformed.
+-- `unpacking::read_header` meets its contract: a number more at each place, or the first that is malformed.
 use mathlib.Core.Path.{sym, _∙_}
 use borrow.Author.Needs.{needs}
 use Rattle.card.specs.Cards.{headerOf}
 use Rattle.card.proofs.Reading.{Begun, begun, begun-next, begun-bad, begun-end}
-use Rattle.card.proofs.read_header.Statement.{statement}
-use Rattle.card.proofs.read_header.Tie as tie
+use Rattle.unpacking.proofs.read_header.Statement.{statement}
+use Rattle.unpacking.proofs.read_header.Tie as tie
 
 abbrev one : (c : tie.After-known-told) → Begun (c .before .before .before .before .before .args .card .now) 4 (c .before .n .given .0 .1 .0)
 one c = begun-next (begun _) (sym (c .before .before .before .read-number .ensures) ∙ c .before .n .given .1)

@@ -1,4 +1,4 @@
--- `card::read_symbols` meets its contract: what was read is in the buffer up to symbol i, and the rest can be read at the place.
+-- `unpacking::read_symbols` meets its contract: what was read is in the buffer up to symbol i, and the rest can be read at the place.
 use mathlib.Core.Path.{_≡_, refl, sym, ap, _∙_}
 use mathlib.Core.List.{_++_, append-nil}
 use Prim.Native.Nat.{_-_, _≤_}
@@ -9,10 +9,10 @@ use lib.ListN.{length, take, drop, length-set}
 use lib.Seq.{take-all}
 use Rattle.lists.proofs.Buffers.{take-more}
 use Rattle.shape.specs.Shape.{symbolValues}
 use Rattle.card.specs.Cards.{symbolsRead, readSymbols}
 use Rattle.card.proofs.Reading.{Good, symbols-good, scan-kept, kept-never, kept-end}
-use Rattle.card.proofs.read_symbols.Statement.{statement}
-use Rattle.card.proofs.read_symbols.Tie as tie
+use Rattle.unpacking.proofs.read_symbols.Statement.{statement}
+use Rattle.unpacking.proofs.read_symbols.Tie as tie
 
 abbrev Inv-loop : tie.InvT-loop
 Inv-loop card start symbols₀ at₀ i₀ symbols at i =

@@ -1,12 +1,12 @@
--- `card::judge_unpacking` meets its contract: what is judged of the header, then the buffer's size.
+-- `unpacking::judge_unpacking` meets its contract: what is judged of the header, then the buffer's size.
 use mathlib.Core.Path.{_≡_, sym, ap, _∙_}
 use borrow.Author.Needs.{needs}
 use borrow.Author.Tests.{eq-eqb, ne-eqb}
 use Rattle.shape.specs.Refusals.{answerNumber, wrongLength}
 use Rattle.card.specs.Cards.{headerRefusal}
 use Rattle.card.proofs.Judging.{header-accepted, header-passes, header-turns}
-use Rattle.card.proofs.judge_unpacking.Statement.{statement}
-use Rattle.card.proofs.judge_unpacking.Tie as tie
+use Rattle.unpacking.proofs.judge_unpacking.Statement.{statement}
+use Rattle.unpacking.proofs.judge_unpacking.Tie as tie
 
 -- where the header is judged
 good : (c : tie.After-s) → headerRefusal (c .before .before .before .before .args .header) 0 ≡ 0

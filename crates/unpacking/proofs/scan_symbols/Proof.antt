@@ -1,14 +1,14 @@
--- `card::scan_symbols` meets its contract: what turns back all symbols turns back those from number i on.
+-- `unpacking::scan_symbols` meets its contract: what turns back all symbols turns back those from number i on.
 use mathlib.Core.Path.{_≡_, sym, ap, _∙_}
 use Prim.Native.Nat.{_-_, _≤_}
 use native.Mathlib.Nat.{sub-zero}
 use native.Mathlib.Omega.{arith}
 use borrow.Author.Needs.{needs}
 use lib.ListN.{drop}
 use Rattle.card.specs.Cards.{symbolsNumber, readSymbols}
 use Rattle.card.proofs.Reading.{number-and, scan-bad, scan-left, scan-end, scan-high, scan-next}
-use Rattle.card.proofs.scan_symbols.Statement.{statement}
-use Rattle.card.proofs.scan_symbols.Tie as tie
+use Rattle.unpacking.proofs.scan_symbols.Statement.{statement}
+use Rattle.unpacking.proofs.scan_symbols.Tie as tie
 
 abbrev Inv-loop : tie.InvT-loop
 Inv-loop modulus card start count at₀ i₀ at i =

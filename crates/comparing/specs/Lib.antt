@@ -1,0 +1,2 @@
+-- Nodes compared with what would be filled in.
+pub mod Comparing
