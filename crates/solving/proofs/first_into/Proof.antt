@@ -54,7 +54,7 @@ run-table-requires c κs =
     let l = c .before .before .before .before .loop in
     let r = c .before .before .run-from .ensures in
     let w = whole (c .before .before .before .before .before) .0 in
-    ((p .0, p .1 .rank, p .1 .rises, p .1 .count, p .1 .apart), (rw (c .before .before .before .before .before .before .before .rank-class .ensures) at (c .before .before .before .before .before .before .members-of .ensures), r .1, rw (← w) (r .2), l .inv .1, l .inv .2))
+    ((p .0, p .1 .rank, p .1 .rises, p .1 .count, p .1 .apart), (rw (c .before .before .before .before .before .before .before .rank-class .ensures) at (c .before .before .before .before .before .before .members-of .ensures), r .1, omega (arith, w, r .2), l .inv .1, l .inv .2))
 
 slice-aggregate-first-batches : tie.Need-slice-aggregate-first-batches Inv-loop μ-loop
 slice-aggregate-first-batches c = sym (c .before .before .run-table .ensures .0)

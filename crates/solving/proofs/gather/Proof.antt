@@ -45,7 +45,7 @@ slice-aggregate-copy : tie.Need-slice-aggregate-copy Inv-loop μ-loop
 slice-aggregate-copy c = sym (c .before .before .before .loop .inv .2 .long)
 
 copy-requires : tie.Need-copy-requires Inv-loop μ-loop
-copy-requires c κs = let r = room (c .before .before) in (r .0, omega (arith, r .1, c .before .before .before .loop .inv .2 .long))
+copy-requires c κs = let r = room (c .before .before) in (omega (arith, r .0), omega (arith, r .1, c .before .before .before .loop .inv .2 .long))
 
 loop-again : tie.Need-loop-again Inv-loop μ-loop
 loop-again c =
