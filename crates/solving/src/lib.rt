@@ -123,13 +123,7 @@ pub fn hand_out(
             continue;
         }
         let sums = sum_row(run, RUN, 0, helpers, table, dead[v] * k, sent);
-        store(
-            MODULUS,
-            run,
-            sums,
-            slot(all, h, u, v) * share + first,
-            out,
-        );
+        store(MODULUS, run, sums, slot(all, h, u, v) * share + first, out);
     }
 }
 
@@ -167,9 +161,7 @@ fn first_run(
     let sent = gather(g, helpers, first, run, messages);
     put_entry(helpers, run, table, &sent, dead[u], first * 2, at, pairs);
     put_entry(helpers, run, table, &sent, n, first * 2 + 1, at, pairs);
-    hand_out(
-        g, dead, helpers, u, false, first, run, table, &sent, sums,
-    );
+    hand_out(g, dead, helpers, u, false, first, run, table, &sent, sums);
 }
 
 // At a run of the members of the rank's class, in every batch.
@@ -264,7 +256,17 @@ pub fn first_into(
         let run = run_from(size, first);
         run_table(g, dead, helpers, u, &class, first, run, &mut table);
         first_batches(
-            g, dead, helpers, u, size, first, run, &table, messages, pairs, sums,
+            g,
+            dead,
+            helpers,
+            u,
+            size,
+            first,
+            run,
+            &table,
+            messages,
+            pairs,
+            sums,
         );
         first += run;
     }

@@ -132,7 +132,16 @@ fn run_on_wire(
     put_entry(helpers, run, table, &sent, dead[u], row, ones, part);
     put_entry(helpers, run, table, &sent, n, row, others, part);
     hand_out(
-        g, dead, helpers, u, true, first, run, table, &sent, &mut wire[base..],
+        g,
+        dead,
+        helpers,
+        u,
+        true,
+        first,
+        run,
+        table,
+        &sent,
+        &mut wire[base..],
     );
 }
 
@@ -201,7 +210,19 @@ fn first_on_wire(
         let ones = offsets(g, dead, u, 0, &class, first, run);
         let others = offsets(g, dead, u, 1, &class, first, run);
         batches_on_wire(
-            g, dead, helpers, told, u, count, first, run, &table, ones, others, part, wire,
+            g,
+            dead,
+            helpers,
+            told,
+            u,
+            count,
+            first,
+            run,
+            &table,
+            ones,
+            others,
+            part,
+            wire,
         );
         first += run;
     }
