@@ -4,7 +4,7 @@ use mathlib.Core.Logic.{_⊎_, inl, inr}
 use mathlib.Core.Bool.{Bool, true, false, cond, not}
 use mathlib.Core.List.{List}
 use Prim.Native.Nat.{ℕ, _+_, _*_, _-_, _%_, _^_, _<_, _≤_}
-use native.Mathlib.Nat.{mul-le-mul, div-le-self}
+use native.Mathlib.Nat.{mul-le-mul, mul-le-mul-right, div-le-self}
 use native.Mathlib.Decide.{ℕ-discrete}
 use native.Mathlib.Omega.{arith}
 use borrow.Author.Tests.{not-false}
@@ -27,13 +27,13 @@ use Rattle.tables.specs.Tables.{entryPoints, Idle, TableOver}
 use Rattle.filling.specs.Filling.{term, Summable, InRun, Below}
 use Rattle.filling.proofs.Filling.{apart}
 use Rattle.classes.specs.declared.Layout.{Layout}
-use Rattle.classes.specs.Classes.{batch, node, rankClass, spot, members, spotAt, messageSize}
+use Rattle.classes.specs.Classes.{batch, top, node, rankClass, spot, members, spotAt, messageSize}
 use Rattle.classes.specs.Steps.{solved, exchangeAt}
 use Rattle.classes.specs.Layout.{Ready, Listed}
 use Rattle.classes.proofs.Ranks.{rankClass-le}
 use Rattle.classes.proofs.Counts.{message-is}
 use Rattle.classes.proofs.Layouts.{bounded, ready-dead, node-high}
-use Rattle.classes.proofs.Members.{member-spot}
+use Rattle.classes.proofs.Members.{members-few, member-spot}
 use Rattle.solving.specs.Solving.{Helped, sentSize, Gathered, rowSum, Needed, Multiplied, Spread, Put, Other, slotPlace, handedSum, handed, HandedOut, Which, ownEntry, own, Owned}
 use Rattle.solving.proofs.Puts.{put-same, put-more, put-spread}
 
@@ -65,9 +65,25 @@ module _ (helpers : List ℕ) (n : ℕ) (high : n ≤ mostNodes) (up : rising 0 
 pub batches-high : {dead : List ℕ} {g : Layout} → Ready dead g → g .batches ≤ mostLayers
 batches-high {dead} {g} R = omega (arith, R .batches-is, div-le-self (g .shape .layers) (batch dead), bounded R .layers-high)
 
--- each batch has a sum for each member of the rank's class
-pub class-message : {dead : List ℕ} {g : Layout} → Ready dead g → (u : ℕ) → messageSize (g .shape) dead ≡ g .batches * length (members dead (rankClass dead u) (2 ^ g .shape .n))
-class-message {dead} {g} R u = message-is (ready-dead R) (rankClass dead u) (rankClass-le dead u) ∙ ap (λ z. z * length (members dead (rankClass dead u) (2 ^ g .shape .n))) (sym (R .batches-is))
+-- each batch has a sum for each member of a rank's class
+pub record Classed (dead : List ℕ) (g : Layout) (u size : ℕ) : Type 0 where
+  pub is : size ≡ length (members dead (rankClass dead u) (2 ^ g .shape .n))
+  pub sums : messageSize (g .shape) dead ≡ g .batches * size
+  pub few : size ≤ 2 ^ mostNodes
+
+pub classed : {dead : List ℕ} {g : Layout} → Ready dead g → (u size : ℕ) → ((c : ℕ) → c ≤ top dead → size ≡ length (members dead c (2 ^ g .shape .n))) → Classed dead g u size
+classed {dead} {g} R u size h =
+    let c = rankClass dead u in
+    let e = h c (rankClass-le dead u) in
+    record {
+      is = e;
+      sums = rw (e, R .batches-is) (message-is (ready-dead R) c (rankClass-le dead u));
+      few = omega (arith, e, members-few dead c (2 ^ g .shape .n), shape-accepted (g .shape) (R .shaped) .places-high);
+    }
+
+-- a run of its sums in batch b is within a message
+pub batch-room : (message batches b size first run : ℕ) → message ≡ batches * size → first + run ≤ size → b < batches → b * size + first + run ≤ message
+batch-room message batches b size first run e h l = omega (arith, e, mul-le-mul-right size (let z : b + 1 ≤ batches = omega arith in z))
 
 -- where all members are passed, all sums are done
 pub all-passed : (batches size first x : ℕ) → size ≤ first → x < batches * size → Below size first x

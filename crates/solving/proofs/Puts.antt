@@ -3,14 +3,39 @@ use mathlib.Core.Path.{_≡_, refl, sym, ap, _∙_}
 use mathlib.Core.Logic.{_≢_, _⊎_, inl, inr}
 use mathlib.Core.List.{List}
 use Prim.Native.Nat.{ℕ, _+_, _-_, _*_, _<_, _≤_}
+use native.Mathlib.Decide.{ℕ-discrete}
 use native.Mathlib.Omega.{arith}
-use lib.ListN.{length, getD}
+use lib.ListN.{length, getD, set, length-set}
+use lib.Seq.{getD-set-same, getD-set-other}
 use Rattle.lists.specs.Lists.{element}
 use Rattle.lists.proofs.Tests.{below-or-not}
 use Rattle.rows.specs.Rows.{Stored}
 use Rattle.filling.specs.Filling.{InRun, InLayers, Below}
 use Rattle.filling.proofs.Runs.{layers-split, layers-before, layers-here, runs-split}
 use Rattle.solving.specs.Solving.{Spread, Put}
+
+-- ---- a row, an element at a time
+
+module _ (base : ℕ) (at : List ℕ) (f : ℕ → ℕ) (before : List ℕ) where
+  pub spread-none : Spread 0 base at f before before
+  spread-none = record { long = refl; hit = λ t h. absurd (omega arith); rest = λ z h. refl }
+
+  -- no place that was stored at is stored at again
+  pub spread-more : (t : ℕ) (now : List ℕ) (v : ℕ) → Spread t base at f before now → base + element at t < length before → v ≡ f t
+      → ((i : ℕ) → i < t → element at i ≢ element at t) → Spread (t + 1) base at f before (set now (base + element at t) v)
+  spread-more t now v w room e apart = record {
+    long = length-set now (base + element at t) v ∙ w .long;
+    hit = λ i h. go i h (ℕ-discrete i t);
+    rest = λ z h. getD-set-other now (base + element at t) z v 0 (λ q. h t (omega arith) (sym q)) ∙ w .rest z (λ i l. h i (omega arith));
+  }
+    where
+      go : (i : ℕ) → i < t + 1 → Dec (i ≡ t) → getD (set now (base + element at t) v) (base + element at i) 0 ≡ f i
+      go i h (yes d) = rw d (getD-set-same now (base + element at t) v 0 (rw (w .long) room) ∙ e)
+      go i h (no d) =
+          let l : i < t = omega arith in
+          getD-set-other now (base + element at t) (base + element at i) v 0 (λ q. apart i l (omega arith)) ∙ w .hit i l
+
+-- ---- symbols of any kind
 
 module _ (Kind : ℕ → Type 0) (size : ℕ) (place value : ℕ → ℕ → ℕ) where
   -- nothing yet

@@ -31,9 +31,6 @@ module _ (h u : ℕ) (l : u < h) where
     sym (digits-mod (slotOf all h u v) k) ∙ ap (λ z. z % M) e ∙ digits-mod (slotOf all h u w) q,
   )
 
-  pub slot-symbol-lt : (all : Bool) (M v x : ℕ) → v < h → v ≢ u → x < M → slotOf all h u v * M + x < slots all h * M
-  slot-symbol-lt all M v x m d k = digits-lt (slot-lt all v m d) k
-
 -- among all exchanges, the messages of two senders stand apart
 pub senders-apart : (h M u v x t w y : ℕ) → u < h → v < h → v ≢ u → t < h → w < h → w ≢ t → x < M → y < M
     → slotOf true h u v * M + x ≡ slotOf true h t w * M + y → u ≡ t

@@ -1,5 +1,5 @@
 -- The messages on the wire: the helpers' come first, by receiver; then the exchanges.
-use mathlib.Core.Path.{_≡_, refl, sym, ap, ap₂, _∙_}
+use mathlib.Core.Path.{_≡_, sym, ap, ap₂, _∙_}
 use mathlib.Core.List.{List}
 use Prim.Native.Nat.{ℕ, _+_, _*_, _-_, _≤_, _<_}
 use native.Mathlib.Nat.{mul-le-mul}
@@ -31,10 +31,6 @@ unfolding fromHelpers fromHelper inward
 helpers-length {s} {dead} D helpers nodes e u =
     flat-length (messageSize s dead) (fromHelper narrow s dead helpers nodes u) (length helpers) (λ j _. message-length D narrow u (piece (size s) (getD helpers j 0) nodes))
     ∙ ap (λ z. z * messageSize s dead) e
-
-pub inwards-is : (s : Shape) (dead : List ℕ) → inwards s dead ≡ length dead * inward s dead
-unfolding inwards
-inwards-is s dead = refl
 
 -- what is to one rank goes by the helpers' messages alone
 pub to-rank-front : (s : Shape) (dead : List ℕ) (u : ℕ) (l k : List ℕ) → u < length dead → inwards s dead ≤ length l → inwards s dead ≤ length k

@@ -2,14 +2,13 @@
 use mathlib.Core.Path.{_≡_, _∙_}
 use mathlib.Core.Bool.{false}
 use Prim.Native.Nat.{_+_, _-_, _*_, _≤_}
-use native.Mathlib.Nat.{mul-le-mul-right}
 use native.Mathlib.Omega.{arith}
 use borrow.Author.Needs.{needs}
 use Rattle.filling.specs.Filling.{InLayers}
 use Rattle.classes.specs.Classes.{messageSize}
 use Rattle.classes.proofs.Layouts.{share-high}
 use Rattle.solving.specs.Solving.{pairPlace, Owned, HandedOut}
-use Rattle.solving.proofs.Entries.{batches-high}
+use Rattle.solving.proofs.Entries.{batches-high, batch-room}
 use Rattle.solving.proofs.Puts.{put-none, put-batch}
 use Rattle.solving.proofs.Sending.{slots-apart, pairs-apart}
 use Rattle.solving.proofs.first_batches.Statement.{statement}
@@ -33,13 +32,13 @@ room : (c : tie.In-loop Inv-loop μ-loop) →
 room c =
     let p = c .before .before .before .before .before .before .before .before .pre .0 in
     let a = c .before .before .before .before .before .before .before .before .args in
-    (omega (arith, p .4, p .3, mul-le-mul-right (a .size) (let z : c .before .loop .b + 1 ≤ a .g .batches = omega arith in z)), share-high (p .0))
+    (batch-room _ (a .g .batches) (c .before .loop .b) (a .size) (a .first) (a .run) (p .4) (p .3) (c .loop-test .taken), share-high (p .0))
 
 mul-first-run : tie.Need-mul-first-run Inv-loop μ-loop
-mul-first-run c = omega (arith, room (c))
+mul-first-run c = omega (arith, room c)
 
 add-first-run : tie.Need-add-first-run Inv-loop μ-loop
-add-first-run c = omega (arith, room (c))
+add-first-run c = omega (arith, room c)
 
 first-run-requires : tie.Need-first-run-requires Inv-loop μ-loop
 first-run-requires c κs =

@@ -1,21 +1,18 @@
 -- `solving::first_into` meets its contract: the sums of the members passed are done, in every batch. Assumes nothing.
 use mathlib.Core.Path.{_≡_, refl, sym, _∙_}
 use mathlib.Core.Bool.{false}
-use Prim.Native.Nat.{ℕ, _-_, _*_, _^_, _≤_, _<_}
+use Prim.Native.Nat.{ℕ, _-_, _≤_, _<_}
 use native.Mathlib.Omega.{arith}
 use borrow.Author.Needs.{needs}
 use lib.ListN.{length}
-use Rattle.shape.proofs.Accepted.{shape-accepted}
 use Rattle.code.specs.Code.{narrow}
 use Rattle.rows.specs.Rows.{Low}
 use Rattle.rows.proofs.Rows.{low-replicate}
 use Rattle.tables.specs.Tables.{tableSize}
 use Rattle.filling.specs.Filling.{Below}
-use Rattle.classes.specs.Classes.{rankClass, members, messageSize}
-use Rattle.classes.proofs.Ranks.{rankClass-le}
-use Rattle.classes.proofs.Members.{members-few}
+use Rattle.classes.specs.Classes.{messageSize}
 use Rattle.solving.specs.Solving.{pairPlace, Owned, HandedOut}
-use Rattle.solving.proofs.Entries.{class-message, all-passed}
+use Rattle.solving.proofs.Entries.{Classed, classed, all-passed}
 use Rattle.solving.proofs.Puts.{put-none, put-run}
 use Rattle.solving.proofs.Sending.{slots-apart, pairs-apart, pairs-end, sent-end}
 use Rattle.solving.proofs.first_into.Statement.{statement}
@@ -34,13 +31,8 @@ loop-holds c =
     (omega arith, refl, low-replicate _ tableSize 0 (omega arith), put-none _ _ _ _ _ _ (λ e x k h d. omega (arith, d)), put-none _ _ _ _ _ _ (λ e x k h d. omega (arith, d)))
 
 -- the members of the rank's class
-whole : (c : tie.After-class-size Inv-loop μ-loop) →
-    let a = c .before .before .before .before .before .before .before .before .args in
-    (c .class-size .result ≡ length (members (a .dead .now) (rankClass (a .dead .now) (a .u)) (2 ^ a .g .shape .n))) × (messageSize (a .g .shape) (a .dead .now) ≡ a .g .batches * c .class-size .result)
-whole c =
-    let a = c .before .before .before .before .before .before .before .before .args in
-    let e = c .class-size .ensures (rankClass (a .dead .now) (a .u)) (rankClass-le _ _) in
-    (e, rw e (class-message (c .before .before .before .before .before .before .before .before .pre .0 .0) (a .u)))
+whole : (c : tie.After-class-size Inv-loop μ-loop) → let a = c .before .before .before .before .before .before .before .before .args in Classed (a .dead .now) (a .g) (a .u) (c .class-size .result)
+whole c = classed (c .before .before .before .before .before .before .before .before .pre .0 .0) _ _ (c .class-size .ensures)
 
 slice-aggregate-run-table : tie.Need-slice-aggregate-run-table Inv-loop μ-loop
 slice-aggregate-run-table c = sym (c .before .before .before .before .before .members-of .ensures .long)
@@ -53,7 +45,7 @@ run-table-requires c κs =
     let p = c .before .before .before .before .before .before .before .before .before .before .before .before .before .pre .0 in
     let l = c .before .before .before .before .loop in
     let r = c .before .before .run-from .ensures in
-    let w = whole (c .before .before .before .before .before) .0 in
+    let w = whole (c .before .before .before .before .before) .is in
     ((p .0, p .1 .rank, p .1 .rises, p .1 .count, p .1 .apart), (rw (c .before .before .before .before .before .before .before .rank-class .ensures) at (c .before .before .before .before .before .before .members-of .ensures), r .1, omega (arith, w, r .2), l .inv .1, l .inv .2))
 
 slice-aggregate-first-batches : tie.Need-slice-aggregate-first-batches Inv-loop μ-loop
@@ -65,18 +57,10 @@ first-batches-requires c κs =
     let l = c .before .before .before .before .before .before .before .before .before .loop in
     let r = c .before .before .before .before .before .before .before .run-from .ensures in
     let w = whole (c .before .before .before .before .before .before .before .before .before .before) in
-    ((p .0 .0, p .0 .1, r .1, r .2, w .1, rw (w .0) (c .before .before .before .before .run-table .ensures .2)), (l .inv .3 .long ∙ p .1 .0, l .inv .4 .long ∙ p .1 .1))
+    ((p .0 .0, p .0 .1, r .1, r .2, w .sums, rw (w .is) (c .before .before .before .before .run-table .ensures .2)), (l .inv .3 .long ∙ p .1 .0, l .inv .4 .long ∙ p .1 .1))
 
 add-first : tie.Need-add-first Inv-loop μ-loop
-add-first c =
-    let a = c .before .before .before .before .before .before .before .before .before .before .before .before .before .before .before .before .before .before .before .before .before .before .before .args in
-    omega (
-      arith,
-      c .before .before .before .before .before .before .before .before .before .before .before .before .run-from .ensures .2,
-      whole (c .before .before .before .before .before .before .before .before .before .before .before .before .before .before .before) .0,
-      members-few (a .dead .now) (rankClass (a .dead .now) (a .u)) (2 ^ a .g .shape .n),
-      shape-accepted (a .g .shape) (c .before .before .before .before .before .before .before .before .before .before .before .before .before .before .before .before .before .before .before .before .before .before .before .pre .0 .0 .shaped) .places-high,
-    )
+add-first c = omega (arith, c .before .before .before .before .before .before .before .before .before .before .before .before .run-from .ensures .2, whole (c .before .before .before .before .before .before .before .before .before .before .before .before .before .before .before) .few)
 
 loop-less : tie.Need-loop-less Inv-loop μ-loop
 loop-less c = omega (arith, c .before .before .before .before .before .before .before .before .before .before .before .before .run-from .ensures .0, c .before .before .before .before .before .before .before .before .before .before .before .before .before .loop-test .taken)
@@ -87,7 +71,7 @@ loop-again c =
     let a = c .before .before .before .before .before .before .before .before .before .before .before .before .before .before .before .before .before .before .before .before .before .before .before .args in
     let l = c .before .before .before .before .before .before .before .before .before .before .before .before .before .before .loop in
     let m = c .before .before .before .before .before .before .before .before .before .run-table .ensures in
-    let w = whole (c .before .before .before .before .before .before .before .before .before .before .before .before .before .before .before) .1 in
+    let w = whole (c .before .before .before .before .before .before .before .before .before .before .before .before .before .before .before) .sums in
     let d = c .before .before .before .before .first-batches .ensures in (
       c .before .before .before .before .before .before .before .before .before .before .before .before .run-from .ensures .2,
       m .0,
@@ -107,7 +91,7 @@ returns c =
     let l = c .before .loop in
     let p = c .before .before .before .before .before .before .before .before .before .before .pre in
     let a = c .before .before .before .before .before .before .before .before .before .before .args in
-    let w = whole (c .before .before) .1 in
+    let w = whole (c .before .before) .sums in
     let all : (x : ℕ) → x < messageSize (a .g .shape) (a .dead .now) → Below (c .before .before .class-size .result) (l .first) x = λ x h. all-passed (a .g .batches) (c .before .before .class-size .result) (l .first) x (omega arith) (rw (← w) h) in
     record {
       never = refl;

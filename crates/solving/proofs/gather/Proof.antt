@@ -33,10 +33,10 @@ room c =
     (omega (arith, s .pre .4, s .pre .3, mul-le-mul-right (s .args .g .share) (let z : j + 1 ≤ length (s .args .helpers .now) = omega arith in z)), omega (arith, s .pre .0, s .pre .2, rising-below (s .args .g .shape .n) (s .args .helpers .now) (s .pre .1) j l))
 
 mul-copy : tie.Need-mul-copy Inv-loop μ-loop
-mul-copy c = omega (arith, room (c))
+mul-copy c = omega (arith, room c)
 
 add-copy : tie.Need-add-copy Inv-loop μ-loop
-add-copy c = omega (arith, room (c))
+add-copy c = omega (arith, room c)
 
 mul-copy-3 : tie.Need-mul-copy-3 Inv-loop μ-loop
 mul-copy-3 c = omega (arith, room (c .before))

@@ -66,10 +66,10 @@ within c =
     )
 
 mul-store : tie.Need-mul-store Inv-loop μ-loop
-mul-store c = omega (arith, within (c))
+mul-store c = omega (arith, within c)
 
 add-store : tie.Need-add-store Inv-loop μ-loop
-add-store c = omega (arith, within (c))
+add-store c = omega (arith, within c)
 
 store-requires : tie.Need-store-requires Inv-loop μ-loop
 store-requires c κs = (omega arith, omega arith, c .before .before .before .before .before .before .before .before .before .before .before .before .pre .0 .2, omega (arith, within (c .before), c .before .before .before .before .before .before .loop .inv .1 .long))

@@ -47,10 +47,10 @@ inside c =
     (omega (arith, p .0 .long, p .2, f, h), omega (arith, p .2, f, h))
 
 add-each : tie.Need-add-each Inv-loop μ-loop
-add-each c = omega (arith, inside (c))
+add-each c = omega (arith, inside c)
 
 mul-each : tie.Need-mul-each Inv-loop μ-loop
-mul-each c = omega (arith, inside (c))
+mul-each c = omega (arith, inside c)
 
 shared-slice-read-each : tie.Need-shared-slice-read-each Inv-loop μ-loop
 shared-slice-read-each c = omega (arith, inside (c .before))

@@ -7,7 +7,7 @@ use borrow.Author.Needs.{needs}
 use Rattle.filling.specs.Filling.{InLayers}
 use Rattle.classes.specs.Classes.{messageSize}
 use Rattle.classes.proofs.Layouts.{bounded, share-high}
-use Rattle.solving.proofs.Entries.{batches-high}
+use Rattle.solving.proofs.Entries.{batches-high, batch-room}
 use Rattle.wiring.specs.Wires.{OnWire}
 use Rattle.wiring.proofs.Passing.{on-wire-none, on-wire-batch, still-wired}
 use Rattle.wiring.proofs.batches_on_wire.Statement.{statement}
@@ -33,25 +33,24 @@ room c =
     let a = c .before .before .before .before .before .before .before .args in
     let B = bounded (p .0 .0) in
     let b = c .before .loop .b in
-    let h : b + 1 ≤ a .g .batches = omega (arith, c .loop-test .taken) in
-    let m : b * a .g .batch ≤ a .g .batches * a .g .batch = mul-le-mul-right (a .g .batch) (let z : b ≤ a .g .batches = omega arith in z) in (
-      omega (arith, p .1 .2, p .1 .1, mul-le-mul-right (a .count) h),
+    let m : b * a .g .batch ≤ a .g .batches * a .g .batch = mul-le-mul-right (a .g .batch) (let z : b ≤ a .g .batches = omega (arith, c .loop-test .taken) in z) in (
+      batch-room _ (a .g .batches) b (a .count) (a .first) (a .run) (p .1 .2) (p .1 .1) (c .loop-test .taken),
       share-high (p .0 .0),
       omega (arith, mul-le-mul-right (a .g .places) m, B .size-is, B .size-high),
       omega (arith, m, B .layers-are, B .layers-high),
     )
 
 mul-run-on-wire : tie.Need-mul-run-on-wire Inv-loop μ-loop
-mul-run-on-wire c = omega (arith, room (c))
+mul-run-on-wire c = omega (arith, room c)
 
 add-run-on-wire : tie.Need-add-run-on-wire Inv-loop μ-loop
-add-run-on-wire c = omega (arith, room (c))
+add-run-on-wire c = omega (arith, room c)
 
 mul-run-on-wire-2 : tie.Need-mul-run-on-wire-2 Inv-loop μ-loop
-mul-run-on-wire-2 c = omega (arith, room (c))
+mul-run-on-wire-2 c = omega (arith, room c)
 
 mul-run-on-wire-3 : tie.Need-mul-run-on-wire-3 Inv-loop μ-loop
-mul-run-on-wire-3 c = omega (arith, room (c))
+mul-run-on-wire-3 c = omega (arith, room c)
 
 run-on-wire-requires : tie.Need-run-on-wire-requires Inv-loop μ-loop
 run-on-wire-requires c κs =

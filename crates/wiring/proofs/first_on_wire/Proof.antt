@@ -1,10 +1,9 @@
 -- `wiring::first_on_wire` meets its contract: the sums of the members passed are done, in every batch. Assumes nothing.
 use mathlib.Core.Path.{_≡_, refl, sym, _∙_}
-use Prim.Native.Nat.{ℕ, _+_, _-_, _*_, _^_, _≤_, _<_}
+use Prim.Native.Nat.{ℕ, _+_, _-_, _^_, _≤_, _<_}
 use native.Mathlib.Omega.{arith}
 use borrow.Author.Needs.{needs}
 use lib.ListN.{length}
-use Rattle.shape.proofs.Accepted.{shape-accepted}
 use Rattle.code.specs.Code.{narrow}
 use Rattle.rows.specs.Rows.{Low}
 use Rattle.rows.proofs.Rows.{low-replicate}
@@ -12,10 +11,8 @@ use Rattle.tables.specs.Tables.{tableSize}
 use Rattle.filling.specs.Filling.{Below}
 use Rattle.classes.specs.Classes.{rankClass, members, messageSize}
 use Rattle.classes.specs.Layout.{Listed}
-use Rattle.classes.proofs.Ranks.{rankClass-le}
-use Rattle.classes.proofs.Members.{members-few}
 use Rattle.solving.specs.Solving.{Helped}
-use Rattle.solving.proofs.Entries.{class-message, all-passed}
+use Rattle.solving.proofs.Entries.{Classed, classed, all-passed}
 use Rattle.wiring.specs.Wires.{toRank, OnWire}
 use Rattle.wiring.proofs.Passing.{offsets-are, on-wire-none, on-wire-run, on-wire-end, still-wired}
 use Rattle.wiring.proofs.first_on_wire.Statement.{statement}
@@ -33,13 +30,8 @@ loop-holds c =
     let p = c .before .before .before .before .before .before .before .pre in (omega arith, refl, low-replicate _ tableSize 0 (omega arith), on-wire-none (p .0) _ _ (p .1) _ _ _ (λ x h d. omega (arith, d)))
 
 -- the members of the rank's class
-whole : (c : tie.After-class-size Inv-loop μ-loop) →
-    let a = c .before .before .before .before .before .before .before .args in
-    (c .class-size .result ≡ length (members (a .dead .now) (rankClass (a .dead .now) (a .u)) (2 ^ a .g .shape .n))) × (messageSize (a .g .shape) (a .dead .now) ≡ a .g .batches * c .class-size .result)
-whole c =
-    let a = c .before .before .before .before .before .before .before .args in
-    let e = c .class-size .ensures (rankClass (a .dead .now) (a .u)) (rankClass-le _ _) in
-    (e, rw e (class-message (c .before .before .before .before .before .before .before .pre .0) (a .u)))
+whole : (c : tie.After-class-size Inv-loop μ-loop) → let a = c .before .before .before .before .before .before .before .args in Classed (a .dead .now) (a .g) (a .u) (c .class-size .result)
+whole c = classed (c .before .before .before .before .before .before .before .pre .0) _ _ (c .class-size .ensures)
 
 listed : (c : tie.After-members-of Inv-loop μ-loop) → let a = c .before .before .before .before .before .before .args in Listed (a .dead .now) (rankClass (a .dead .now) (a .u)) (a .g .shape .n) (c .members-of .result)
 listed c = rw (c .before .rank-class .ensures) at (c .members-of .ensures)
@@ -47,7 +39,7 @@ listed c = rw (c .before .rank-class .ensures) at (c .members-of .ensures)
 -- the run is within the class
 inside : (c : tie.After-run-from Inv-loop μ-loop) →
     let a = c .before .before .before .before .before .before .before .before .before .before .args in c .before .before .loop .first + c .run-from .result ≤ length (members (a .dead .now) (rankClass (a .dead .now) (a .u)) (2 ^ a .g .shape .n))
-inside c = rw (← (whole (c .before .before .before) .0)) (c .run-from .ensures .2)
+inside c = rw (← (whole (c .before .before .before) .is)) (c .run-from .ensures .2)
 
 helped : (c : tie.Start Inv-loop μ-loop) → let a = c .args in Helped (a .g .shape) (a .dead .now) (a .helpers .now) (a .u) (toRank (a .g .shape) (a .dead .now) (a .u) (a .wire .now))
 helped c = c .pre .4 .helped _ (c .pre .1)
@@ -90,22 +82,14 @@ batches-on-wire-requires c κs =
       (
         r .1,
         r .2,
-        w .1,
-        rw (w .0) (c .before .before .before .before .before .before .before .before .run-table .ensures .2),
-        rw (w .0) (offsets-are (p .0) _ _ _ _ (listed (c .before .before .before .before .before .before .before .before .before .before .before .before .before .before .before)) (inside (c .before .before .before .before .before .before .before .before .before .before .before)) _ _ (c .before .before .before .before .before .offsets .ensures) (c .before .before .before .offsets2 .ensures)),
+        w .sums,
+        rw (w .is) (c .before .before .before .before .before .before .before .before .run-table .ensures .2),
+        rw (w .is) (offsets-are (p .0) _ _ _ _ (listed (c .before .before .before .before .before .before .before .before .before .before .before .before .before .before .before)) (inside (c .before .before .before .before .before .before .before .before .before .before .before)) _ _ (c .before .before .before .before .before .offsets .ensures) (c .before .before .before .offsets2 .ensures)),
       ),
     )
 
 add-first : tie.Need-add-first Inv-loop μ-loop
-add-first c =
-    let a = c .before .before .before .before .before .before .before .before .before .before .before .before .before .before .before .before .before .before .before .before .before .before .before .before .before .before .args in
-    omega (
-      arith,
-      c .before .before .before .before .before .before .before .before .before .before .before .before .before .before .before .before .run-from .ensures .2,
-      whole (c .before .before .before .before .before .before .before .before .before .before .before .before .before .before .before .before .before .before .before) .0,
-      members-few (a .dead .now) (rankClass (a .dead .now) (a .u)) (2 ^ a .g .shape .n),
-      shape-accepted (a .g .shape) (c .before .before .before .before .before .before .before .before .before .before .before .before .before .before .before .before .before .before .before .before .before .before .before .before .before .before .pre .0 .shaped) .places-high,
-    )
+add-first c = omega (arith, c .before .before .before .before .before .before .before .before .before .before .before .before .before .before .before .before .run-from .ensures .2, whole (c .before .before .before .before .before .before .before .before .before .before .before .before .before .before .before .before .before .before .before) .few)
 
 loop-less : tie.Need-loop-less Inv-loop μ-loop
 loop-less c = omega (arith, c .before .before .before .before .before .before .before .before .before .before .before .before .before .before .before .before .run-from .ensures .0, c .before .before .before .before .before .before .before .before .before .before .before .before .before .before .before .before .before .loop-test .taken)
@@ -119,7 +103,7 @@ loop-again c =
       c .before .before .before .before .before .before .before .before .before .before .before .before .before .before .before .before .run-from .ensures .2,
       m .0,
       m .1,
-      on-wire-run (p .0) _ _ (p .1) _ _ _ _ _ _ (omega (arith, p .4 .long)) (l .first) (c .before .before .before .before .before .before .before .before .before .before .before .before .before .before .before .before .run-from .result) (a .g .batches) (c .before .before .before .before .before .before .before .before .before .before .before .before .before .before .before .before .before .before .before .class-size .result) (whole (c .before .before .before .before .before .before .before .before .before .before .before .before .before .before .before .before .before .before .before) .1) (l .inv .3) (c .before .before .before .before .batches-on-wire .ensures),
+      on-wire-run (p .0) _ _ (p .1) _ _ _ _ _ _ (omega (arith, p .4 .long)) (l .first) (c .before .before .before .before .before .before .before .before .before .before .before .before .before .before .before .before .run-from .result) (a .g .batches) (c .before .before .before .before .before .before .before .before .before .before .before .before .before .before .before .before .before .before .before .class-size .result) (whole (c .before .before .before .before .before .before .before .before .before .before .before .before .before .before .before .before .before .before .before) .sums) (l .inv .3) (c .before .before .before .before .batches-on-wire .ensures),
     )
 
 same-length : tie.Need-same-length Inv-loop μ-loop
@@ -133,7 +117,7 @@ returns c =
     let l = c .before .loop in
     let p = c .before .before .before .before .before .before .before .before .before .pre in
     let a = c .before .before .before .before .before .before .before .before .before .args in
-    let w = whole (c .before .before) .1 in
+    let w = whole (c .before .before) .sums in
     let all : (x : ℕ) → x < messageSize (a .g .shape) (a .dead .now) → Below (c .before .before .class-size .result) (l .first) x = λ x h. all-passed (a .g .batches) (c .before .before .class-size .result) (l .first) x (omega arith) (rw (← w) h) in
     let e = on-wire-end (p .0) _ _ (p .1) (Below (c .before .before .class-size .result) (l .first)) _ _ _ _ all (p .3) (l .inv .3) in
     record { never = refl; own = e .0; sent = e .1 }

@@ -39,10 +39,10 @@ inside c =
     (omega (arith, p .2 .long, f, h), omega (arith, f, h), rw (p .2 .each _ l) (member-is (a .dead .now) k (2 ^ a .g .shape .n) _ l .0))
 
 add-place : tie.Need-add-place Inv-loop μ-loop
-add-place c = omega (arith, inside (c))
+add-place c = omega (arith, inside c)
 
 mul-place : tie.Need-mul-place Inv-loop μ-loop
-mul-place c = omega (arith, inside (c))
+mul-place c = omega (arith, inside c)
 
 shared-slice-read-place : tie.Need-shared-slice-read-place Inv-loop μ-loop
 shared-slice-read-place c = omega (arith, inside (c .before))
