@@ -1,39 +1,71 @@
 // A helper's message to a new node, and the second step of a new node.
 use classes::Layout;
 use classes::among;
-use classes::of_class;
+use classes::class_size;
+use classes::members_of;
 use classes::rank_class;
-use field::subtract;
 use shape::MODULUS;
-use sums::first_places;
-use sums::place;
-use sums::sum_at;
+use sums::turn_of;
 ghost use mathlib.Core.Path.{_≡_};
-ghost use Prim.Native.Nat.{_+_, _-_, _*_, _<_};
+ghost use Prim.Native.Nat.{_+_, _-_, _*_, _%_, _<_};
 ghost use lib.ListN.{length};
-ghost use Rattle.lists.specs.Lists.{element};
+ghost use Rattle.lists.specs.Lists.{element, tabulate};
 ghost use Rattle.shape.specs.Shape.{size};
 ghost use Rattle.classes.specs.Classes.{messageSize};
 ghost use Rattle.classes.specs.Steps.{helperMessage, place};
 ghost use Rattle.classes.specs.Layout.{Ready};
 ghost use Rattle.steps.specs.Storing.{Paired, sentBy, Crossed, Begun, Recovers};
+ghost use Rattle.steps.specs.Batch.{Apart, addedIn, PairedIn, leftIn, Stored, turned};
 ghost use Rattle.field.specs.Residues.{minus};
 ghost use Rattle.code.specs.Code.{narrow};
 
-// The message to rank u of a helper with these N symbols; x is the number of the sum at e.
+// The sum of two symbols.
+fn total(one: u16, other: u16) -> u16
+    ensures { λ r. ⌜ r ≡ (one + other) % narrow .modulus ⌝ }
+{
+    ((one as u32 + other as u32) % MODULUS) as u16
+}
+
+// The sums of one batch, whose symbols these are: "the helper's symbol at (layer 0, a) plus its symbol at (partner layer, a with bit i_u
+// flipped)".
+fn add_batch(members: &[u16], turn: usize, symbols: &[u16], sums: &mut [u16])
+    requires { ⌜ (Apart (now members) 0 turn (length (now symbols))) × (length (now sums) ≡ length (now members)) ⌝ }
+    ensures { λ _. ⌜ now (sums .exit) ≡ tabulate (length (now (members .entry))) (addedIn narrow (now (members .entry)) turn (now (symbols .entry))) ⌝ }
+{
+    for x in 0..members.len() {
+        let a = members[x] as usize;
+        sums[x] = total(symbols[a], symbols[a ^ turn]);
+    }
+}
+
+// The message to rank u of a helper with these N symbols, batch by batch.
 pub fn message_to(g: Layout, dead: &[usize], u: usize, symbols: &[u16], message: &mut [u16])
     requires { ⌜ (Ready (now dead) g) × (u < length (now dead)) × (length (now symbols) ≡ size (g .shape)) × (length (now message) ≡ messageSize (g .shape) (now dead)) ⌝ }
     ensures { λ _. ⌜ now (message .exit) ≡ helperMessage narrow (g .shape) (now (dead .entry)) u (now (symbols .entry)) ⌝ }
 {
-    let class = rank_class(g, dead, u);
-    let count = first_places(g, dead);
-    let mut x = 0;
-    for e in 0..count {
-        if !of_class(g, dead, class, e) {
-            continue;
-        }
-        message[x] = sum_at(g, dead, u, e, symbols);
-        x += 1;
+    let table = members_of(g, dead, rank_class(g, dead, u));
+    let count = class_size(g, dead);
+    let turn = turn_of(g, dead, u);
+    let block = g.batch * g.places;
+    let batches = g.batches;
+    for b in 0..batches {
+        let at = b * block;
+        let end = at + block;
+        let from = b * count;
+        let to = from + count;
+        add_batch(&table[..count], turn, &symbols[at..end], &mut message[from..to]);
+    }
+}
+
+// Stores the own pairs of one batch at both places of each sum.
+fn pair_batch(members: &[u16], turn: usize, pairs: &[u16], symbols: &mut [u16])
+    requires { ⌜ (Apart (now members) 0 turn (length (now symbols))) × (Apart (now members) turn 0 (length (now symbols))) × (length (now pairs) ≡ length (now members) * 2) ⌝ }
+    ensures { λ _. ⌜ PairedIn (now (members .entry)) turn (now (pairs .entry)) (length (now (members .entry))) (now (symbols .exit)) ⌝ }
+{
+    for x in 0..members.len() {
+        let a = members[x] as usize;
+        symbols[a] = pairs[x * 2];
+        symbols[a ^ turn] = pairs[x * 2 + 1];
     }
 }
 
@@ -42,26 +74,37 @@ pub fn store_pairs(g: Layout, dead: &[usize], u: usize, pairs: &[u16], symbols: 
     requires { ⌜ (Ready (now dead) g) × (u < length (now dead)) × (length (now pairs) ≡ 2 * messageSize (g .shape) (now dead)) × (length (now symbols) ≡ size (g .shape)) ⌝ }
     ensures { λ _. ⌜ Paired (g .shape) (now (dead .entry)) u (now (pairs .entry)) (now (symbols .exit)) ⌝ }
 {
-    let class = rank_class(g, dead, u);
-    let count = first_places(g, dead);
-    let mut x = 0;
-    for e in 0..count {
-        if !of_class(g, dead, class, e) {
-            continue;
-        }
-        let one = place(g, dead, u, 0, e);
-        let other = place(g, dead, u, 1, e);
-        symbols[one] = pairs[x * 2];
-        symbols[other] = pairs[x * 2 + 1];
-        x += 1;
+    let table = members_of(g, dead, rank_class(g, dead, u));
+    let count = class_size(g, dead);
+    let turn = turn_of(g, dead, u);
+    let block = g.batch * g.places;
+    let double = count * 2;
+    let batches = g.batches;
+    for b in 0..batches {
+        let at = b * block;
+        let end = at + block;
+        let from = b * double;
+        let to = from + double;
+        pair_batch(&table[..count], turn, &pairs[from..to], &mut symbols[at..end]);
     }
 }
 
-// What is left of a sum of two symbols where one of them is taken away.
+// What is left of a sum of two symbols where one of them is taken away; 65535 is 255 times the modulus.
 fn difference(sum: u16, symbol: u16) -> u16
     ensures { λ r. ⌜ r ≡ minus (narrow .modulus) sum symbol ⌝ }
 {
-    subtract(MODULUS, sum as u32, symbol as u32) as u16
+    ((sum as u32 + 65535 - symbol as u32) % MODULUS) as u16
+}
+
+// Stores at one place of each sum of a batch what is left of the sum where the symbol at its other place is taken away.
+fn cross_batch(members: &[u16], near: usize, far: usize, sums: &[u16], symbols: &mut [u16])
+    requires { ⌜ (Apart (now members) near far (length (now symbols))) × (length (now sums) ≡ length (now members)) ⌝ }
+    ensures { λ _. ⌜ Stored (length (now (members .entry))) (turned (now (members .entry)) far) (leftIn narrow (now (members .entry)) near (now (sums .entry)) (now (symbols .entry))) (now (symbols .entry)) (now (symbols .exit)) ⌝ }
+{
+    for x in 0..members.len() {
+        let a = members[x] as usize;
+        symbols[a ^ far] = difference(sums[x], symbols[a ^ near]);
+    }
 }
 
 // Stores at the places `which` of rank u's sums each sum less the symbol at its other place.
@@ -69,17 +112,19 @@ fn cross(g: Layout, dead: &[usize], u: usize, which: usize, sums: &[u16], symbol
     requires { ⌜ (Ready (now dead) g) × (u < length (now dead)) × (which < 2) × (length (now sums) ≡ messageSize (g .shape) (now dead)) × (length (now symbols) ≡ size (g .shape)) ⌝ }
     ensures { λ _. ⌜ Crossed narrow (g .shape) (now (dead .entry)) u which (element (now (sums .entry))) (now (symbols .entry)) (now (symbols .exit)) ⌝ }
 {
-    let class = rank_class(g, dead, u);
-    let count = first_places(g, dead);
-    let mut x = 0;
-    for e in 0..count {
-        if !of_class(g, dead, class, e) {
-            continue;
-        }
-        let from = place(g, dead, u, 1 - which, e);
-        let to = place(g, dead, u, which, e);
-        symbols[to] = difference(sums[x], symbols[from]);
-        x += 1;
+    let table = members_of(g, dead, rank_class(g, dead, u));
+    let count = class_size(g, dead);
+    let turn = turn_of(g, dead, u);
+    let near = turn * (1 - which);
+    let far = turn * which;
+    let block = g.batch * g.places;
+    let batches = g.batches;
+    for b in 0..batches {
+        let at = b * block;
+        let end = at + block;
+        let from = b * count;
+        let to = from + count;
+        cross_batch(&table[..count], near, far, &sums[from..to], &mut symbols[at..end]);
     }
 }
 

@@ -6,11 +6,11 @@ use field::add;
 use shape::MODULUS;
 use shape::two_to;
 ghost use mathlib.Core.Path.{_≡_};
-ghost use Prim.Native.Nat.{_*_, _^_, _<_};
+ghost use Prim.Native.Nat.{_+_, _*_, _^_, _<_};
 ghost use lib.ListN.{length};
 ghost use Rattle.lists.specs.Digits.{flip};
 ghost use Rattle.shape.specs.Shape.{mostNodes, size};
-ghost use Rattle.classes.specs.Classes.{partner, placeOf, placeAt};
+ghost use Rattle.classes.specs.Classes.{node, partner, placeOf, placeAt};
 ghost use Rattle.classes.specs.Steps.{addedAt};
 ghost use Rattle.classes.specs.Layout.{Ready};
 ghost use Rattle.code.specs.Code.{narrow};
@@ -40,6 +40,17 @@ fn partner(g: Layout, dead: &[usize], u: usize) -> usize
     } else {
         u % batch + 1
     }
+}
+
+// What turns the first place of each sum of rank u into its other one, within a batch: the bit of node i_u, and above the bits of a the
+// partner layer.
+pub fn turn_of(g: Layout, dead: &[usize], u: usize) -> usize
+    requires { ⌜ (Ready (now dead) g) × (u < length (now dead)) ⌝ }
+    ensures { λ r. ⌜ r ≡ partner (now (dead .entry)) u * 2 ^ g .shape .n + 2 ^ node (now (dead .entry)) u ⌝ }
+{
+    let places = g.places;
+    let node = dead[u];
+    partner(g, dead, u) * places + two_to(node)
 }
 
 // The place of layer w of batch b, at a.
