@@ -2,8 +2,7 @@
 use mathlib.Core.Path.{_≡_, refl, sym, ap, ap₂, _∙_}
 use mathlib.Core.Logic.{_≢_, _⊎_, inl, inr}
 use mathlib.Core.List.{List}
-use Prim.Native.Nat.{ℕ, zero, suc, _+_, _*_, _-_, _≤_, _<_}
-use native.Mathlib.Decide.{decLt}
+use Prim.Native.Nat.{ℕ, zero, suc, _+_, _*_, _-_, _%_, _≤_, _<_}
 use native.Mathlib.Omega.{arith}
 use borrow.Rule.Slice.PartMut.{putMid}
 use lib.Bits.{bitXor, xor-zero-r}
@@ -11,7 +10,7 @@ use lib.ListN.{length, getD, set, length-set}
 use lib.Seq.{getD-set-same, getD-set-other}
 use Rattle.lists.specs.Lists.{piece}
 use Rattle.lists.proofs.Tests.{below-or-not}
-use Rattle.steps.specs.Batch.{turned, Apart, PairedIn, Stored}
+use Rattle.steps.specs.Batch.{turned, Apart, Remain, PairedIn, Stored}
 use Rattle.steps.proofs.Parts.{put-piece, put-other, put-piece-length}
 
 pub turned-is : (members : List ℕ) (turn x : ℕ) → turned members turn x ≡ bitXor (getD members x 0) turn
@@ -45,6 +44,16 @@ module _ (place value : ℕ → ℕ) (old : List ℕ) where
       go : (x : ℕ) → (x < n) ⊎ (x ≡ n) → getD (set now t v) (place x) 0 ≡ value x
       go x (inl h) = getD-set-other now t (place x) v 0 (λ z. own x h (z ∙ e)) ∙ A .each x h
       go x (inr h) = ap (λ z. getD (set now t v) z 0) (ap place h ∙ sym e) ∙ getD-set-same now t v 0 (rw (A .long) room) ∙ q ∙ ap value (sym h)
+
+pub remain-none : (q : ℕ) (value : ℕ → ℕ) (now : List ℕ) → Remain q 0 value now
+remain-none q value now = record { each = λ x h. absurd (omega arith) }
+
+pub remain-more : (q n v : ℕ) (value : ℕ → ℕ) (now : List ℕ) → Remain q n value now → n < length now → v % q ≡ value n → Remain q (n + 1) value (set now n v)
+remain-more q n v value now A room e = record { each = λ x h. go x (upto x n h) }
+  where
+    go : (x : ℕ) → (x < n) ⊎ (x ≡ n) → getD (set now n v) x 0 % q ≡ value x
+    go x (inl h) = ap (λ z. z % q) (getD-set-other now n x v 0 (λ z. omega arith)) ∙ A .each x h
+    go x (inr h) = ap (λ z. getD (set now n v) z 0 % q) h ∙ ap (λ z. z % q) (getD-set-same now n v 0 room) ∙ e ∙ ap value (sym h)
 
 module _ (members : List ℕ) (turn : ℕ) (pairs : List ℕ) where
   pub paired-none : (now : List ℕ) → PairedIn members turn pairs 0 now

@@ -22,6 +22,14 @@ pub record Apart (members : List ℕ) (near far room : ℕ) : Type 0 where
 unfoldable pub addedIn : Code → List ℕ → ℕ → List ℕ → ℕ → ℕ
 addedIn c members turn symbols x = (getD symbols (turned members 0 x) 0 + getD symbols (turned members turn x) 0) % c .modulus
 
+-- the first `count` numbers of a row leave these remainders
+pub record Remain (q count : ℕ) (value : ℕ → ℕ) (row : List ℕ) : Type 0 where
+  pub each : (x : ℕ) → x < count → getD row x 0 % q ≡ value x
+
+-- number x of a row, modulo q
+unfoldable pub remainder : ℕ → List ℕ → ℕ → ℕ
+remainder q row x = getD row x 0 % q
+
 -- the first `count` own pairs stand at their places
 pub record PairedIn (members : List ℕ) (turn : ℕ) (pairs : List ℕ) (count : ℕ) (symbols : List ℕ) : Type 0 where
   pub one : (x : ℕ) → x < count → getD symbols (turned members 0 x) 0 ≡ getD pairs (x * 2 + 0) 0

@@ -15,27 +15,47 @@ ghost use Rattle.classes.specs.Classes.{messageSize};
 ghost use Rattle.classes.specs.Steps.{helperMessage, place};
 ghost use Rattle.classes.specs.Layout.{Ready};
 ghost use Rattle.steps.specs.Storing.{Paired, sentBy, Crossed, Begun, Recovers};
-ghost use Rattle.steps.specs.Batch.{Apart, addedIn, PairedIn, leftIn, Stored, turned};
+ghost use Rattle.steps.specs.Batch.{Apart, addedIn, Remain, remainder, PairedIn, leftIn, Stored, turned};
 ghost use Rattle.field.specs.Residues.{minus};
 ghost use Rattle.code.specs.Code.{narrow};
 
-// The sum of two symbols.
-fn total(one: u16, other: u16) -> u16
-    ensures { λ r. ⌜ r ≡ (one + other) % narrow .modulus ⌝ }
+// The sum of two symbols, less 65535 where it is more: 65535 is 255 times the modulus.
+fn folded(one: u16, other: u16) -> u16
+    ensures { λ r. ⌜ r % narrow .modulus ≡ (one + other) % narrow .modulus ⌝ }
 {
-    ((one as u32 + other as u32) % MODULUS) as u16
+    let sum = one as u32 + other as u32;
+    (sum % 65536 + sum / 65536) as u16
 }
 
-// The sums of one batch, whose symbols these are: "the helper's symbol at (layer 0, a) plus its symbol at (partner layer, a with bit i_u
-// flipped)".
+// The sums of one batch, whose symbols these are, not yet modulo 257: "the helper's symbol at (layer 0, a) plus its symbol at (partner
+// layer, a with bit i_u flipped)".
+fn fold_batch(members: &[u16], turn: usize, symbols: &[u16], sums: &mut [u16])
+    requires { ⌜ (Apart (now members) 0 turn (length (now symbols))) × (length (now sums) ≡ length (now members)) ⌝ }
+    ensures { λ _. ⌜ Remain (narrow .modulus) (length (now (members .entry))) (addedIn narrow (now (members .entry)) turn (now (symbols .entry))) (now (sums .exit)) ⌝ }
+{
+    for x in 0..members.len() {
+        let a = members[x] as usize;
+        sums[x] = folded(symbols[a], symbols[a ^ turn]);
+    }
+}
+
+// All sums modulo 257.
+fn reduce(sums: &mut [u16])
+    ensures { λ _. ⌜ now (sums .exit) ≡ tabulate (length (now (sums .entry))) (remainder (narrow .modulus) (now (sums .entry))) ⌝ }
+{
+    let q = MODULUS as u16;
+    for x in 0..sums.len() {
+        sums[x] = sums[x] % q;
+    }
+}
+
+// The sums of one batch. They are reduced by themselves, a row of numbers of two bytes: such a loop a compiler turns into vector instructions.
 fn add_batch(members: &[u16], turn: usize, symbols: &[u16], sums: &mut [u16])
     requires { ⌜ (Apart (now members) 0 turn (length (now symbols))) × (length (now sums) ≡ length (now members)) ⌝ }
     ensures { λ _. ⌜ now (sums .exit) ≡ tabulate (length (now (members .entry))) (addedIn narrow (now (members .entry)) turn (now (symbols .entry))) ⌝ }
 {
-    for x in 0..members.len() {
-        let a = members[x] as usize;
-        sums[x] = total(symbols[a], symbols[a ^ turn]);
-    }
+    fold_batch(members, turn, symbols, sums);
+    reduce(sums);
 }
 
 // The message to rank u of a helper with these N symbols, batch by batch.
