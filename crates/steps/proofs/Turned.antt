@@ -23,7 +23,7 @@ use Rattle.code.specs.Code.{Code}
 use Rattle.classes.specs.declared.Layout.{Layout}
 use Rattle.classes.specs.Classes.{batch, top, node, rankClass, partner, members, placeOf, spot, Sum, sumAt, sumPlace, messageSize}
 use Rattle.classes.specs.Steps.{added, helperMessage}
-use Rattle.classes.specs.Layout.{Ready, Listed}
+use Rattle.classes.specs.Layout.{Ready, Fronted}
 use Rattle.classes.proofs.Sizes.{batch-pos}
 use Rattle.classes.proofs.Dead.{node-below, flip-node-lt}
 use Rattle.classes.proofs.Ranks.{partner-lt, rankClass-le}
@@ -80,7 +80,7 @@ unfolding turnOf
 turn-is s dead u = refl
 
 -- the first elements of the table are the members
-pub table-front : (dead : List ℕ) (c n count : ℕ) (table : List ℕ) → Listed dead c n table → count ≡ length (members dead c (2 ^ n)) → count ≤ length table → take count table ≡ members dead c (2 ^ n)
+pub table-front : (dead : List ℕ) (c n count : ℕ) (table : List ℕ) → Fronted dead c n table → count ≡ length (members dead c (2 ^ n)) → count ≤ length table → take count table ≡ members dead c (2 ^ n)
 table-front dead c n count table L e h =
     ext-getD 0 (take count table) (members dead c (2 ^ n)) (long ∙ e)
     (λ x k. let l : x < count = omega (arith, long) in getD-take count table x 0 l ∙ L .each x (omega arith))
@@ -264,18 +264,20 @@ pub record Tabled (dead : List ℕ) (g : Layout) (u : ℕ) (table : List ℕ) (c
   pub front : take count table ≡ own (g .shape) dead u
   pub count-is : count ≡ length (own (g .shape) dead u)
   pub turn-is : turn ≡ turnOf (g .shape) dead u
-  pub few : count ≤ 2 ^ mostNodes
+  pub few : count ≤ length table
+  pub high : count ≤ 2 ^ mostNodes
 
-pub tabled : {dead : List ℕ} {g : Layout} → Ready dead g → (u class count turn : ℕ) (table : List ℕ) → class ≡ rankClass dead u → Listed dead class (g .shape .n) table
+pub tabled : {dead : List ℕ} {g : Layout} → Ready dead g → (u class count turn : ℕ) (table : List ℕ) → class ≡ rankClass dead u → Fronted dead class (g .shape .n) table → g .places ≤ length table
     → ((c : ℕ) → c ≤ top dead → count ≡ length (members dead c (2 ^ g .shape .n))) → turn ≡ partner dead u * 2 ^ g .shape .n + 2 ^ node dead u → Tabled dead g u table count turn
-tabled {dead} {g} R u class count turn table e L n t =
+tabled {dead} {g} R u class count turn table e L room n t =
     let k = n (rankClass dead u) (rankClass-le dead u) in
-    let few : count ≤ 2 ^ mostNodes = omega (arith, k, members-few dead (rankClass dead u) (2 ^ g .shape .n), bounded R .places-high, R .places-is) in
+    let few : count ≤ g .places = omega (arith, k, members-few dead (rankClass dead u) (2 ^ g .shape .n), R .places-is) in
     record {
-      front = table-front dead (rankClass dead u) (g .shape .n) count table (rw e at L) k (omega (arith, L .long));
+      front = table-front dead (rankClass dead u) (g .shape .n) count table (rw e at L) k (omega arith);
       count-is = k;
       turn-is = t ∙ turn-is (g .shape) dead u;
-      few = few;
+      few = omega arith;
+      high = omega (arith, bounded R .places-high);
     }
 
 -- a turn, or none, is no more than the layers' places

@@ -1,13 +1,14 @@
 // A helper's message to a new node, and the second step of a new node.
 use classes::Layout;
+use classes::MEMBERS;
 use classes::among;
 use classes::class_size;
-use classes::members_of;
+use classes::list_members;
 use classes::rank_class;
 use shape::MODULUS;
 use sums::turn_of;
 ghost use mathlib.Core.Path.{_≡_};
-ghost use Prim.Native.Nat.{_+_, _-_, _*_, _%_, _<_};
+ghost use Prim.Native.Nat.{_+_, _-_, _*_, _%_, _≤_, _<_};
 ghost use lib.ListN.{length};
 ghost use Rattle.lists.specs.Lists.{element, tabulate};
 ghost use Rattle.shape.specs.Shape.{size};
@@ -18,6 +19,9 @@ ghost use Rattle.steps.specs.Storing.{Paired, sentBy, Crossed, Begun, Re
 ghost use Rattle.steps.specs.Batch.{Apart, addedIn, Remain, remainder, PairedIn, leftIn, Stored, turned};
 ghost use Rattle.field.specs.Residues.{minus};
 ghost use Rattle.code.specs.Code.{narrow};
+
+// The places of a small shape's layer.
+const FEW: usize = 64;
 
 // The sum of two symbols, less 65535 where it is more: 65535 is 255 times the modulus.
 fn folded(one: u16, other: u16) -> u16
@@ -58,12 +62,19 @@ fn add_batch(members: &[u16], turn: usize, symbols: &[u16], sums: &mut [u16])
     reduce(sums);
 }
 
-// The message to rank u of a helper with these N symbols, batch by batch.
-pub fn message_to(g: Layout, dead: &[usize], u: usize, symbols: &[u16], message: &mut [u16])
-    requires { ⌜ (Ready (now dead) g) × (u < length (now dead)) × (length (now symbols) ≡ size (g .shape)) × (length (now message) ≡ messageSize (g .shape) (now dead)) ⌝ }
+// The message to rank u of a helper with these N symbols, batch by batch; the members of the rank's class go to a lent table.
+fn message_with(
+    g: Layout,
+    dead: &[usize],
+    u: usize,
+    table: &mut [u16],
+    symbols: &[u16],
+    message: &mut [u16],
+)
+    requires { ⌜ (Ready (now dead) g) × (u < length (now dead)) × (g .places ≤ length (now table)) × (length (now symbols) ≡ size (g .shape)) × (length (now message) ≡ messageSize (g .shape) (now dead)) ⌝ }
     ensures { λ _. ⌜ now (message .exit) ≡ helperMessage narrow (g .shape) (now (dead .entry)) u (now (symbols .entry)) ⌝ }
 {
-    let table = members_of(g, dead, rank_class(g, dead, u));
+    list_members(g, dead, rank_class(g, dead, u), table);
     let count = class_size(g, dead);
     let turn = turn_of(g, dead, u);
     let block = g.batch * g.places;
@@ -74,6 +85,20 @@ pub fn message_to(g: Layout, dead: &[usize], u: usize, symbols: &[u16], message:
         let from = b * count;
         let to = from + count;
         add_batch(&table[..count], turn, &symbols[at..end], &mut message[from..to]);
+    }
+}
+
+// The message to rank u of a helper with these N symbols. Small shapes have a small table: a large one takes as long to clear as their work.
+pub fn message_to(g: Layout, dead: &[usize], u: usize, symbols: &[u16], message: &mut [u16])
+    requires { ⌜ (Ready (now dead) g) × (u < length (now dead)) × (length (now symbols) ≡ size (g .shape)) × (length (now message) ≡ messageSize (g .shape) (now dead)) ⌝ }
+    ensures { λ _. ⌜ now (message .exit) ≡ helperMessage narrow (g .shape) (now (dead .entry)) u (now (symbols .entry)) ⌝ }
+{
+    if g.places <= FEW {
+        let mut table = [0u16; FEW];
+        message_with(g, dead, u, &mut table, symbols, message);
+    } else {
+        let mut table = [0u16; MEMBERS];
+        message_with(g, dead, u, &mut table, symbols, message);
     }
 }
 
@@ -89,12 +114,19 @@ fn pair_batch(members: &[u16], turn: usize, pairs: &[u16], symbols: &mut [u16])
     }
 }
 
-// Stores rank u's own pairs at the places of its sums.
-pub fn store_pairs(g: Layout, dead: &[usize], u: usize, pairs: &[u16], symbols: &mut [u16])
-    requires { ⌜ (Ready (now dead) g) × (u < length (now dead)) × (length (now pairs) ≡ 2 * messageSize (g .shape) (now dead)) × (length (now symbols) ≡ size (g .shape)) ⌝ }
+// Stores rank u's own pairs at the places of its sums, with a lent table.
+fn pairs_with(
+    g: Layout,
+    dead: &[usize],
+    u: usize,
+    table: &mut [u16],
+    pairs: &[u16],
+    symbols: &mut [u16],
+)
+    requires { ⌜ (Ready (now dead) g) × (u < length (now dead)) × (g .places ≤ length (now table)) × (length (now pairs) ≡ 2 * messageSize (g .shape) (now dead)) × (length (now symbols) ≡ size (g .shape)) ⌝ }
     ensures { λ _. ⌜ Paired (g .shape) (now (dead .entry)) u (now (pairs .entry)) (now (symbols .exit)) ⌝ }
 {
-    let table = members_of(g, dead, rank_class(g, dead, u));
+    list_members(g, dead, rank_class(g, dead, u), table);
     let count = class_size(g, dead);
     let turn = turn_of(g, dead, u);
     let block = g.batch * g.places;
@@ -106,6 +138,20 @@ pub fn store_pairs(g: Layout, dead: &[usize], u: usize, pairs: &[u16], symbols: 
         let from = b * double;
         let to = from + double;
         pair_batch(&table[..count], turn, &pairs[from..to], &mut symbols[at..end]);
+    }
+}
+
+// Stores rank u's own pairs at the places of its sums.
+pub fn store_pairs(g: Layout, dead: &[usize], u: usize, pairs: &[u16], symbols: &mut [u16])
+    requires { ⌜ (Ready (now dead) g) × (u < length (now dead)) × (length (now pairs) ≡ 2 * messageSize (g .shape) (now dead)) × (length (now symbols) ≡ size (g .shape)) ⌝ }
+    ensures { λ _. ⌜ Paired (g .shape) (now (dead .entry)) u (now (pairs .entry)) (now (symbols .exit)) ⌝ }
+{
+    if g.places <= FEW {
+        let mut table = [0u16; FEW];
+        pairs_with(g, dead, u, &mut table, pairs, symbols);
+    } else {
+        let mut table = [0u16; MEMBERS];
+        pairs_with(g, dead, u, &mut table, pairs, symbols);
     }
 }
 
@@ -128,11 +174,19 @@ fn cross_batch(members: &[u16], near: usize, far: usize, sums: &[u16], symbols: 
 }
 
 // Stores at the places `which` of rank u's sums each sum less the symbol at its other place.
-fn cross(g: Layout, dead: &[usize], u: usize, which: usize, sums: &[u16], symbols: &mut [u16])
-    requires { ⌜ (Ready (now dead) g) × (u < length (now dead)) × (which < 2) × (length (now sums) ≡ messageSize (g .shape) (now dead)) × (length (now symbols) ≡ size (g .shape)) ⌝ }
+fn cross(
+    g: Layout,
+    dead: &[usize],
+    u: usize,
+    which: usize,
+    table: &mut [u16],
+    sums: &[u16],
+    symbols: &mut [u16],
+)
+    requires { ⌜ (Ready (now dead) g) × (u < length (now dead)) × (g .places ≤ length (now table)) × (which < 2) × (length (now sums) ≡ messageSize (g .shape) (now dead)) × (length (now symbols) ≡ size (g .shape)) ⌝ }
     ensures { λ _. ⌜ Crossed narrow (g .shape) (now (dead .entry)) u which (element (now (sums .entry))) (now (symbols .entry)) (now (symbols .exit)) ⌝ }
 {
-    let table = members_of(g, dead, rank_class(g, dead, u));
+    list_members(g, dead, rank_class(g, dead, u), table);
     let count = class_size(g, dead);
     let turn = turn_of(g, dead, u);
     let near = turn * (1 - which);
@@ -155,23 +209,31 @@ fn cross_from(
     v: usize,
     u: usize,
     which: usize,
+    table: &mut [u16],
     received: &[u16],
     symbols: &mut [u16],
 )
-    requires { ⌜ (Ready (now dead) g) × (v < length (now dead)) × (u < length (now dead)) × (u ≡ v → ⊥) × (which < 2) ⌝ }
+    requires { ⌜ (Ready (now dead) g) × (v < length (now dead)) × (u < length (now dead)) × (u ≡ v → ⊥) × (which < 2) × (g .places ≤ length (now table)) ⌝ }
     requires { ⌜ (length (now received) ≡ (length (now dead) - 1) * messageSize (g .shape) (now dead)) × (length (now symbols) ≡ size (g .shape)) ⌝ }
     ensures { λ _. ⌜ Crossed narrow (g .shape) (now (dead .entry)) u which (sentBy (g .shape) (now (dead .entry)) v (now (received .entry)) u) (now (symbols .entry)) (now (symbols .exit)) ⌝ }
 {
     let share = g.share;
     let at = among(v, u) * share;
     let end = at + share;
-    cross(g, dead, u, which, &received[at..end], symbols);
+    cross(g, dead, u, which, table, &received[at..end], symbols);
 }
 
 // "A node whose class in the table is c, not 0, first gets class 0 of layer 0 from its own class c and the message of rank s × (c−1)."
 // Returns that rank, or h where the class is 0.
-fn begin(g: Layout, dead: &[usize], v: usize, received: &[u16], symbols: &mut [u16]) -> usize
-    requires { ⌜ (Ready (now dead) g) × (v < length (now dead)) ⌝ }
+fn begin(
+    g: Layout,
+    dead: &[usize],
+    v: usize,
+    table: &mut [u16],
+    received: &[u16],
+    symbols: &mut [u16],
+) -> usize
+    requires { ⌜ (Ready (now dead) g) × (v < length (now dead)) × (g .places ≤ length (now table)) ⌝ }
     requires { ⌜ (length (now received) ≡ (length (now dead) - 1) * messageSize (g .shape) (now dead)) × (length (now symbols) ≡ size (g .shape)) ⌝ }
     ensures { λ r. ⌜ Begun narrow (g .shape) (now (dead .entry)) v (now (received .entry)) (now (symbols .entry)) (now (symbols .exit)) r ⌝ }
 {
@@ -181,21 +243,43 @@ fn begin(g: Layout, dead: &[usize], v: usize, received: &[u16], symbols: &mut [u
         return dead.len();
     }
     let turning = batch * (class - 1);
-    cross_from(g, dead, v, turning, 0, received, symbols);
+    cross_from(g, dead, v, turning, 0, table, received, symbols);
     turning
 }
 
 // The second step of rank v in place. A rank's own class of layer 0 is there before the rank comes: it was filled by a lower one.
+fn recover_with(
+    g: Layout,
+    dead: &[usize],
+    v: usize,
+    table: &mut [u16],
+    received: &[u16],
+    symbols: &mut [u16],
+)
+    requires { ⌜ (Ready (now dead) g) × (v < length (now dead)) × (g .places ≤ length (now table)) ⌝ }
+    requires { ⌜ (length (now received) ≡ (length (now dead) - 1) * messageSize (g .shape) (now dead)) × (length (now symbols) ≡ size (g .shape)) ⌝ }
+    ensures { λ _. ⌜ Recovers narrow (g .shape) (now (dead .entry)) v (now (received .entry)) (now (symbols .entry)) (now (symbols .exit)) ⌝ }
+{
+    let turning = begin(g, dead, v, table, received, symbols);
+    for u in 0..dead.len() {
+        if (u == v) | (u == turning) {
+            continue;
+        }
+        cross_from(g, dead, v, u, 1, table, received, symbols);
+    }
+}
+
+// The second step of rank v in place.
 pub fn recover(g: Layout, dead: &[usize], v: usize, received: &[u16], symbols: &mut [u16])
     requires { ⌜ (Ready (now dead) g) × (v < length (now dead)) ⌝ }
     requires { ⌜ (length (now received) ≡ (length (now dead) - 1) * messageSize (g .shape) (now dead)) × (length (now symbols) ≡ size (g .shape)) ⌝ }
     ensures { λ _. ⌜ Recovers narrow (g .shape) (now (dead .entry)) v (now (received .entry)) (now (symbols .entry)) (now (symbols .exit)) ⌝ }
 {
-    let turning = begin(g, dead, v, received, symbols);
-    for u in 0..dead.len() {
-        if (u == v) | (u == turning) {
-            continue;
-        }
-        cross_from(g, dead, v, u, 1, received, symbols);
+    if g.places <= FEW {
+        let mut table = [0u16; FEW];
+        recover_with(g, dead, v, &mut table, received, symbols);
+    } else {
+        let mut table = [0u16; MEMBERS];
+        recover_with(g, dead, v, &mut table, received, symbols);
     }
 }

@@ -16,32 +16,33 @@ use Rattle.steps.proofs.cross.Tie as tie
 use Rattle.steps.proofs.cross.Reads as reads
 use Rattle.steps.proofs.cross.Lts as lts
 use Rattle.classes.proofs.class_size.Reads as class-size-reads
-use Rattle.classes.proofs.members_of.Reads as members-of-reads
+use Rattle.classes.proofs.list_members.Reads as list-members-reads
 use Rattle.classes.proofs.rank_class.Reads as rank-class-reads
 use Rattle.steps.proofs.cross_batch.Reads as cross-batch-reads
 use Rattle.sums.proofs.turn_of.Reads as turn-of-reads
 
 abbrev Inv-loop : tie.InvT-loop
-Inv-loop dead u which sums symbols₀ table count turn near far block batches b₀ symbols b =
+Inv-loop dead u which table sums symbols₀ count turn near far block batches b₀ symbols b =
     (b ≤ batches) × Pieces batches block (BatchCrossed narrow (take count table) near far sums) b symbols₀ symbols
 
 abbrev μ-loop : tie.MeasureT-loop
-μ-loop dead u which sums symbols₀ table count turn near far block batches b₀ symbols b = batches - b
+μ-loop dead u which table sums symbols₀ count turn near far block batches b₀ symbols b = batches - b
 
 -- the rank's table
-known : (c : tie.At-loop Inv-loop μ-loop) → let a = c .before .before .before .before .before .before .before .before .before .args in Tabled (a .dead .now) (a .g) (a .u) (c .before .before .before .before .members-of .result) (c .before .before .before .class-size .result) (c .before .before .turn-of .result)
+known : (c : tie.At-loop Inv-loop μ-loop) → let a = c .before .before .before .before .before .before .before .before .before .before .before .before .before .args in Tabled (a .dead .now) (a .g) (a .u) (c .before .before .before .before .before .before .list-members .last .1 .1 .1 .0) (c .before .before .before .class-size .result) (c .before .before .turn-of .result)
 known c =
-    tabled (c .before .before .before .before .before .before .before .before .before .pre .0) _ _ _ _ _ (c .before .before .before .before .before .rank-class .ensures) (c .before .before .before .before .members-of .ensures) (c .before .before .before .class-size .ensures) (c .before .before .turn-of .ensures)
+    let t = c .before .before .before .before .before .before .list-members in
+    tabled (c .before .before .before .before .before .before .before .before .before .before .before .before .before .pre .0) _ _ _ _ _ (c .before .before .before .before .before .before .before .before .rank-class .ensures) (t .ensures) (rw (t .kept .1 .1 .1 .0) (c .before .before .before .before .before .before .before .before .before .before .before .before .before .pre .2)) (c .before .before .before .class-size .ensures) (c .before .before .turn-of .ensures)
 
 -- the batch's parts are within their buffers
-part : (c : tie.In-loop Inv-loop μ-loop) → let a = c .before .before .before .before .before .before .before .before .before .before .args in Room (a .dead .now) (a .g) (c .before .loop .b) (c .before .before .before .before .class-size .result)
-part c = let st = c .before .before .before .before .before .before .before .before .before .before in room (st .pre .0) _ (st .pre .1) _ _ _ (known (c .before)) (c .before .loop .b) (omega arith)
+part : (c : tie.In-loop Inv-loop μ-loop) → let a = c .before .before .before .before .before .before .before .before .before .before .before .before .before .before .args in Room (a .dead .now) (a .g) (c .before .loop .b) (c .before .before .before .before .class-size .result)
+part c = let st = c .before .before .before .before .before .before .before .before .before .before .before .before .before .before in room (st .pre .0) _ (st .pre .1) _ _ _ (known (c .before)) (c .before .loop .b) (omega arith)
 
 rank-class-requires : tie.Need-rank-class-requires Inv-loop μ-loop
 rank-class-requires c κs = search needs
 
-members-of-requires : tie.Need-members-of-requires Inv-loop μ-loop
-members-of-requires c κs = search needs
+list-members-requires : tie.Need-list-members-requires Inv-loop μ-loop
+list-members-requires c κs = search needs
 
 class-size-requires : tie.Need-class-size-requires Inv-loop μ-loop
 class-size-requires c κs = search needs
@@ -53,13 +54,13 @@ sub-near : tie.Need-sub-near Inv-loop μ-loop
 sub-near c = search needs
 
 mul-near : tie.Need-mul-near Inv-loop μ-loop
-mul-near c = let st = c .before .before .before .before .before .before .before in omega (arith, turn-high (st .pre .0) (st .args .u) (c .turn-of .result) (1 - st .args .which) (st .pre .1) (c .turn-of .ensures) (omega arith))
+mul-near c = let st = c .before .before .before .before .before .before .before .before .before .before .before in omega (arith, turn-high (st .pre .0) (st .args .u) (c .turn-of .result) (1 - st .args .which) (st .pre .1) (c .turn-of .ensures) (omega arith))
 
 mul-far : tie.Need-mul-far Inv-loop μ-loop
-mul-far c = let st = c .before .before .before .before .before .before .before in omega (arith, turn-high (st .pre .0) (st .args .u) (c .turn-of .result) (st .args .which) (st .pre .1) (c .turn-of .ensures) (st .pre .2))
+mul-far c = let st = c .before .before .before .before .before .before .before .before .before .before .before in omega (arith, turn-high (st .pre .0) (st .args .u) (c .turn-of .result) (st .args .which) (st .pre .1) (c .turn-of .ensures) (st .pre .3))
 
 mul-block : tie.Need-mul-block Inv-loop μ-loop
-mul-block c = let b = bounded (c .before .before .before .before .before .before .before .before .pre .0) in omega (arith, mul-le-mul {n₂ = 12} {m₂ = 4096} (b .batch-high) (b .places-high))
+mul-block c = let b = bounded (c .before .before .before .before .before .before .before .before .before .before .before .before .pre .0) in omega (arith, mul-le-mul {n₂ = 12} {m₂ = 4096} (b .batch-high) (b .places-high))
 
 loop-holds : tie.Need-loop-holds Inv-loop μ-loop
 loop-holds c = (search needs, pieces-none _ _ _ _)
@@ -76,8 +77,8 @@ mul-from c = omega (arith, part c)
 add-to : tie.Need-add-to Inv-loop μ-loop
 add-to c = omega (arith, part c)
 
-array-share-prefix-table : tie.Need-array-share-prefix-table Inv-loop μ-loop
-array-share-prefix-table c = omega (arith, known (c .before) .few, c .before .before .before .before .before .members-of .ensures .long)
+slice-reshare-prefix-cross-batch : tie.Need-slice-reshare-prefix-cross-batch Inv-loop μ-loop
+slice-reshare-prefix-cross-batch c = known (c .before) .few
 
 slice-aggregate-cross-batch : tie.Need-slice-aggregate-cross-batch Inv-loop μ-loop
 slice-aggregate-cross-batch c = let k = known (c .before .before) in k .count-is ∙ ap length (sym (k .front))
@@ -92,7 +93,7 @@ part-cross-batch-start : tie.Need-part-cross-batch-start Inv-loop μ-loop
 part-cross-batch-start c = search needs
 
 part-cross-batch-end : tie.Need-part-cross-batch-end Inv-loop μ-loop
-part-cross-batch-end c = omega (arith, part (c .before), c .before .before .before .before .before .before .before .before .before .before .before .pre .3)
+part-cross-batch-end c = omega (arith, part (c .before), c .before .before .before .before .before .before .before .before .before .before .before .before .before .before .before .pre .4)
 
 mul-cross-batch-2 : tie.Need-mul-cross-batch-2 Inv-loop μ-loop
 mul-cross-batch-2 c = omega (arith, part (c .before .before))
@@ -104,23 +105,23 @@ part-cross-batch-start-2 : tie.Need-part-cross-batch-start-2 Inv-loop μ-loop
 part-cross-batch-start-2 c = search needs
 
 part-cross-batch-end-2 : tie.Need-part-cross-batch-end-2 Inv-loop μ-loop
-part-cross-batch-end-2 c = let r = part (c .before .before) in omega (arith, r .block, c .before .before .before .before .before .before .before .before .before .before .before .before .pre .4, c .before .before .before .loop .inv .1 .long)
+part-cross-batch-end-2 c = let r = part (c .before .before) in omega (arith, r .block, c .before .before .before .before .before .before .before .before .before .before .before .before .before .before .before .before .pre .5, c .before .before .before .loop .inv .1 .long)
 
 cross-batch-requires : tie.Need-cross-batch-requires Inv-loop μ-loop
 cross-batch-requires c κs =
     let i = c .before .before .before in
-    let st = i .before .before .before .before .before .before .before .before .before .before in
+    let st = i .before .before .before .before .before .before .before .before .before .before .before .before .before .before in
     let l = i .before .loop in
     let k = known (i .before) in
     let block = st .args .g .batch * st .args .g .places in
     let count = i .before .before .before .before .class-size .result in
-    let members = take count (i .before .before .before .before .before .members-of .result) in
+    let members = take count (i .before .before .before .before .before .before .before .list-members .last .1 .1 .1 .0) in
     let turn = i .before .before .before .turn-of .result in
     let r = part i in
     let n : length members ≡ count = ap length (k .front) ∙ sym (k .count-is) in
-    let long : length (take (l .b * block + block - l .b * block) (drop (l .b * block) (l .symbols))) ≡ block = simp (length-take, length-drop) (omega (arith, r .block, st .pre .4, l .inv .1 .long)) in
+    let long : length (take (l .b * block + block - l .b * block) (drop (l .b * block) (l .symbols))) ≡ block = simp (length-take, length-drop) (omega (arith, r .block, st .pre .5, l .inv .1 .long)) in
     let h : l .b < st .args .g .batches = omega arith in
-    (rw long (apart-by (st .pre .0) _ (st .pre .1) _ _ _ k (l .b) h (st .args .which) (st .pre .2)), rw n (simp (length-take, length-drop) (omega (arith, r .sums, st .pre .3))))
+    (rw long (apart-by (st .pre .0) _ (st .pre .1) _ _ _ k (l .b) h (st .args .which) (st .pre .3)), rw n (simp (length-take, length-drop) (omega (arith, r .sums, st .pre .4))))
 
 add-b : tie.Need-add-b Inv-loop μ-loop
 add-b c = search needs
@@ -131,33 +132,36 @@ loop-less c = search needs
 loop-again : tie.Need-loop-again Inv-loop μ-loop
 loop-again c =
     let i = c .before .before .before .before .before .before in
-    let st = i .before .before .before .before .before .before .before .before .before .before in
+    let st = i .before .before .before .before .before .before .before .before .before .before .before .before .before .before in
     let l = i .before .loop in
     let k = known (i .before) in
     let block = st .args .g .batch * st .args .g .places in
     let count = i .before .before .before .before .class-size .result in
-    let members = take count (i .before .before .before .before .before .members-of .result) in
+    let members = take count (i .before .before .before .before .before .before .before .list-members .last .1 .1 .1 .0) in
     let turn = i .before .before .before .turn-of .result in
     let r = part i in
     let n : length members ≡ count = ap length (k .front) ∙ sym (k .count-is) in
-    let long : length (take (l .b * block + block - l .b * block) (drop (l .b * block) (l .symbols))) ≡ block = simp (length-take, length-drop) (omega (arith, r .block, st .pre .4, l .inv .1 .long)) in
+    let long : length (take (l .b * block + block - l .b * block) (drop (l .b * block) (l .symbols))) ≡ block = simp (length-take, length-drop) (omega (arith, r .block, st .pre .5, l .inv .1 .long)) in
     let m = c .before .before .cross-batch in
     let e : take (l .b * count + count - l .b * count) (drop (l .b * count) (st .args .sums .now)) ≡ piece (length members) (l .b) (st .args .sums .now) =
     piece-part count (l .b) (st .args .sums .now) ∙ ap (λ z. piece z (l .b) (st .args .sums .now)) (sym n) in (
       search needs,
       pieces-more (st .args .g .batches) block (BatchCrossed narrow members (turn * (1 - st .args .which)) (turn * st .args .which) (st .args .sums .now)) (st .args .symbols .now) (l .b) (l .symbols) _
-          (st .pre .4 ∙ sym (blocks-are (st .pre .0) _ (st .pre .1) _ _ _ k)) (omega arith) (l .inv .1) (rw (e, piece-part block (l .b) (l .symbols)) at (m .ensures)) (m .kept .1 .1 .1 .1 .0 ∙ long),
+          (st .pre .5 ∙ sym (blocks-are (st .pre .0) _ (st .pre .1) _ _ _ k)) (omega arith) (l .inv .1) (rw (e, piece-part block (l .b) (l .symbols)) at (m .ensures)) (m .kept .1 .1 .1 .1 .0 ∙ long),
     )
 
 same-length : tie.Need-same-length Inv-loop μ-loop
-same-length c = c .before .loop .inv .1 .long
+same-length c = c .before .before .before .before .before .before .before .list-members .kept .1 .1 .1 .0
+
+same-length-2 : tie.Need-same-length-2 Inv-loop μ-loop
+same-length-2 c = c .before .loop .inv .1 .long
 
 returns : tie.Need-returns Inv-loop μ-loop
 returns c =
-    let st = c .before .before .before .before .before .before .before .before .before .before in
+    let st = c .before .before .before .before .before .before .before .before .before .before .before .before .before .before in
     let l = c .before .loop in
     let e : l .b ≡ st .args .g .batches = omega arith in
-    crossed-done (st .pre .0) _ (st .pre .1) _ _ _ (known (c .before)) narrow _ (st .pre .2) _ (st .args .symbols .now) (l .symbols) (st .pre .4) (rw e at (l .inv .1))
+    crossed-done (st .pre .0) _ (st .pre .1) _ _ _ (known (c .before)) narrow _ (st .pre .3) _ (st .args .symbols .now) (l .symbols) (st .pre .5) (rw e at (l .inv .1))
 
 pub cross-spec : {M : Type 1} → statement M
 cross-spec =
@@ -166,7 +170,7 @@ cross-spec =
     Inv-loop
     μ-loop
     rank-class-requires
-    members-of-requires
+    list-members-requires
     class-size-requires
     turn-of-requires
     sub-near
@@ -178,7 +182,7 @@ cross-spec =
     add-end
     mul-from
     add-to
-    array-share-prefix-table
+    slice-reshare-prefix-cross-batch
     slice-aggregate-cross-batch
     mul-cross-batch
     sub-cross-batch
@@ -193,4 +197,5 @@ cross-spec =
     loop-less
     loop-again
     same-length
+    same-length-2
     returns)

@@ -1,195 +1,21 @@
--- `steps::store_pairs` meets its contract. Assumes nothing.
-use mathlib.Core.Path.{_≡_, refl, sym, ap, ap₂, _∙_}
-use Prim.Native.Nat.{ℕ, _+_, _-_, _*_, _≤_, _<_}
-use native.Mathlib.Nat.{mul-le-mul}
-use native.Mathlib.Omega.{arith}
-use lib.ListN.{length, take, drop, length-take, length-drop}
-use Rattle.lists.specs.Lists.{piece}
-use Rattle.code.specs.Code.{narrow}
-use Rattle.classes.proofs.Layouts.{bounded, ready-dead}
-use Rattle.steps.proofs.Parts.{piece-part}
-use Rattle.steps.proofs.Batch.{Pieces, pieces-none, pieces-more}
-use Rattle.steps.proofs.Turned.{BatchPaired, Tabled, tabled, Room, room, blocks-are, apart-first, apart-other, paired-done}
+-- `steps::store_pairs` meets its contract: the pairs are stored with a table, small or large. Assumes nothing.
 use borrow.Author.Needs.{needs}
+use Rattle.classes.proofs.Layouts.{bounded}
 use Rattle.steps.proofs.store_pairs.Statement.{statement}
 use Rattle.steps.proofs.store_pairs.Tie as tie
-use Rattle.steps.proofs.store_pairs.Reads as reads
-use Rattle.steps.proofs.store_pairs.Lts as lts
-use Rattle.classes.proofs.class_size.Reads as class-size-reads
-use Rattle.classes.proofs.members_of.Reads as members-of-reads
-use Rattle.classes.proofs.rank_class.Reads as rank-class-reads
-use Rattle.steps.proofs.pair_batch.Reads as pair-batch-reads
-use Rattle.sums.proofs.turn_of.Reads as turn-of-reads
 
-abbrev Inv-loop : tie.InvT-loop
-Inv-loop dead u pairs symbols₀ table count turn block double batches b₀ symbols b =
-    (b ≤ batches) × Pieces batches block (BatchPaired (take count table) turn pairs) b symbols₀ symbols
-
-abbrev μ-loop : tie.MeasureT-loop
-μ-loop dead u pairs symbols₀ table count turn block double batches b₀ symbols b = batches - b
-
--- the rank's table
-known : (c : tie.At-loop Inv-loop μ-loop) → let a = c .before .before .before .before .before .before .before .before .before .args in Tabled (a .dead .now) (a .g) (a .u) (c .before .before .before .before .members-of .result) (c .before .before .before .class-size .result) (c .before .before .turn-of .result)
-known c =
-    tabled (c .before .before .before .before .before .before .before .before .before .pre .0) _ _ _ _ _ (c .before .before .before .before .before .rank-class .ensures) (c .before .before .before .before .members-of .ensures) (c .before .before .before .class-size .ensures) (c .before .before .turn-of .ensures)
-
--- the batch's parts are within their buffers
-part : (c : tie.In-loop Inv-loop μ-loop) → let a = c .before .before .before .before .before .before .before .before .before .before .args in Room (a .dead .now) (a .g) (c .before .loop .b) (c .before .before .before .before .class-size .result)
-part c = let st = c .before .before .before .before .before .before .before .before .before .before in room (st .pre .0) _ (st .pre .1) _ _ _ (known (c .before)) (c .before .loop .b) (omega arith)
-
-rank-class-requires : tie.Need-rank-class-requires Inv-loop μ-loop
-rank-class-requires c κs = search needs
-
-members-of-requires : tie.Need-members-of-requires Inv-loop μ-loop
-members-of-requires c κs = search needs
-
-class-size-requires : tie.Need-class-size-requires Inv-loop μ-loop
-class-size-requires c κs = search needs
-
-turn-of-requires : tie.Need-turn-of-requires Inv-loop μ-loop
-turn-of-requires c κs = search needs
-
-mul-block : tie.Need-mul-block Inv-loop μ-loop
-mul-block c = let b = bounded (c .before .before .before .before .before .before .before .before .pre .0) in omega (arith, mul-le-mul {n₂ = 12} {m₂ = 4096} (b .batch-high) (b .places-high))
-
-double-high : (c : tie.After-struct-known Inv-loop μ-loop) → c .before .before .class-size .result ≤ 4096
-double-high c =
-    tabled (c .before .before .before .before .before .before .before .before .pre .0) _ _ _ _ _ (c .before .before .before .before .rank-class .ensures) (c .before .before .before .members-of .ensures) (c .before .before .class-size .ensures) (c .before .turn-of .ensures) .few
-
-mul-double : tie.Need-mul-double Inv-loop μ-loop
-mul-double c = omega (arith, double-high c)
-
-loop-holds : tie.Need-loop-holds Inv-loop μ-loop
-loop-holds c = (search needs, pieces-none _ _ _ _)
-
-mul-at : tie.Need-mul-at Inv-loop μ-loop
-mul-at c = omega (arith, part c)
-
-add-end : tie.Need-add-end Inv-loop μ-loop
-add-end c = omega (arith, part c)
-
-mul-from : tie.Need-mul-from Inv-loop μ-loop
-mul-from c = omega (arith, part c)
-
-add-to : tie.Need-add-to Inv-loop μ-loop
-add-to c = omega (arith, part c)
-
-array-share-prefix-table : tie.Need-array-share-prefix-table Inv-loop μ-loop
-array-share-prefix-table c = omega (arith, known (c .before) .few, c .before .before .before .before .before .members-of .ensures .long)
-
-slice-aggregate-pair-batch : tie.Need-slice-aggregate-pair-batch Inv-loop μ-loop
-slice-aggregate-pair-batch c = let k = known (c .before .before) in k .count-is ∙ ap length (sym (k .front))
-
-mul-pair-batch : tie.Need-mul-pair-batch Inv-loop μ-loop
-mul-pair-batch c = omega (arith, part (c .before))
-
-sub-pair-batch : tie.Need-sub-pair-batch Inv-loop μ-loop
-sub-pair-batch c = search needs
-
-part-pair-batch-start : tie.Need-part-pair-batch-start Inv-loop μ-loop
-part-pair-batch-start c = search needs
-
-part-pair-batch-end : tie.Need-part-pair-batch-end Inv-loop μ-loop
-part-pair-batch-end c = omega (arith, part (c .before), c .before .before .before .before .before .before .before .before .before .before .before .pre .2)
-
-mul-pair-batch-2 : tie.Need-mul-pair-batch-2 Inv-loop μ-loop
-mul-pair-batch-2 c = omega (arith, part (c .before .before))
-
-sub-pair-batch-2 : tie.Need-sub-pair-batch-2 Inv-loop μ-loop
-sub-pair-batch-2 c = search needs
-
-part-pair-batch-start-2 : tie.Need-part-pair-batch-start-2 Inv-loop μ-loop
-part-pair-batch-start-2 c = search needs
-
-part-pair-batch-end-2 : tie.Need-part-pair-batch-end-2 Inv-loop μ-loop
-part-pair-batch-end-2 c = let r = part (c .before .before) in omega (arith, r .block, c .before .before .before .before .before .before .before .before .before .before .before .before .pre .3, c .before .before .before .loop .inv .1 .long)
-
-pair-batch-requires : tie.Need-pair-batch-requires Inv-loop μ-loop
-pair-batch-requires c κs =
-    let i = c .before .before .before in
-    let st = i .before .before .before .before .before .before .before .before .before .before in
-    let l = i .before .loop in
-    let k = known (i .before) in
-    let block = st .args .g .batch * st .args .g .places in
-    let count = i .before .before .before .before .class-size .result in
-    let members = take count (i .before .before .before .before .before .members-of .result) in
-    let turn = i .before .before .before .turn-of .result in
-    let r = part i in
-    let n : length members ≡ count = ap length (k .front) ∙ sym (k .count-is) in
-    let long : length (take (l .b * block + block - l .b * block) (drop (l .b * block) (l .symbols))) ≡ block = simp (length-take, length-drop) (omega (arith, r .block, st .pre .3, l .inv .1 .long)) in
-    let h : l .b < st .args .g .batches = omega arith in (
-      rw long (apart-other (st .pre .0) _ (st .pre .1) _ _ _ k (l .b) h),
-      rw long (apart-first (st .pre .0) _ (st .pre .1) _ _ _ k (l .b) h),
-      rw n (simp (length-take, length-drop) (omega (arith, r .sums, st .pre .2))),
-    )
-
-add-b : tie.Need-add-b Inv-loop μ-loop
-add-b c = search needs
-
-loop-less : tie.Need-loop-less Inv-loop μ-loop
-loop-less c = search needs
-
-loop-again : tie.Need-loop-again Inv-loop μ-loop
-loop-again c =
-    let i = c .before .before .before .before .before .before in
-    let st = i .before .before .before .before .before .before .before .before .before .before in
-    let l = i .before .loop in
-    let k = known (i .before) in
-    let block = st .args .g .batch * st .args .g .places in
-    let count = i .before .before .before .before .class-size .result in
-    let members = take count (i .before .before .before .before .before .members-of .result) in
-    let turn = i .before .before .before .turn-of .result in
-    let r = part i in
-    let n : length members ≡ count = ap length (k .front) ∙ sym (k .count-is) in
-    let long : length (take (l .b * block + block - l .b * block) (drop (l .b * block) (l .symbols))) ≡ block = simp (length-take, length-drop) (omega (arith, r .block, st .pre .3, l .inv .1 .long)) in
-    let m = c .before .before .pair-batch in
-    let e : take (l .b * (count * 2) + count * 2 - l .b * (count * 2)) (drop (l .b * (count * 2)) (st .args .pairs .now)) ≡ piece (length members * 2) (l .b) (st .args .pairs .now) =
-    piece-part (count * 2) (l .b) (st .args .pairs .now) ∙ ap (λ z. piece (z * 2) (l .b) (st .args .pairs .now)) (sym n) in (
-      search needs,
-      pieces-more (st .args .g .batches) block (BatchPaired members turn (st .args .pairs .now)) (st .args .symbols .now) (l .b) (l .symbols) _
-          (st .pre .3 ∙ sym (blocks-are (st .pre .0) _ (st .pre .1) _ _ _ k)) (omega arith) (l .inv .1) (rw e at (m .ensures)) (m .kept .1 .1 .1 .0 ∙ long),
-    )
-
-same-length : tie.Need-same-length Inv-loop μ-loop
-same-length c = c .before .loop .inv .1 .long
-
-returns : tie.Need-returns Inv-loop μ-loop
-returns c =
-    let st = c .before .before .before .before .before .before .before .before .before .before in
-    let l = c .before .loop in
-    let e : l .b ≡ st .args .g .batches = omega arith in
-    paired-done (st .pre .0) _ (st .pre .1) _ _ _ (known (c .before)) _ (st .args .symbols .now) (l .symbols) (l .inv .1 .long ∙ st .pre .3) (rw e at (l .inv .1))
+pairs-with-requires-2 : tie.Need-pairs-with-requires-2
+pairs-with-requires-2 c κs = let p = c .before .before .before .before .before .before .before .pre in (p .0, p .1, bounded (p .0) .places-high, p .2, p .3)
 
 pub store-pairs-spec : {M : Type 1} → statement M
 store-pairs-spec =
     tie.close
     (tie.spec
-    Inv-loop
-    μ-loop
-    rank-class-requires
-    members-of-requires
-    class-size-requires
-    turn-of-requires
-    mul-block
-    mul-double
-    loop-holds
-    mul-at
-    add-end
-    mul-from
-    add-to
-    array-share-prefix-table
-    slice-aggregate-pair-batch
-    mul-pair-batch
-    sub-pair-batch
-    part-pair-batch-start
-    part-pair-batch-end
-    mul-pair-batch-2
-    sub-pair-batch-2
-    part-pair-batch-start-2
-    part-pair-batch-end-2
-    pair-batch-requires
-    add-b
-    loop-less
-    loop-again
-    same-length
-    returns)
+    (λ c. search needs)
+    (λ c κs. search needs)
+    (λ c. search needs)
+    pairs-with-requires-2
+    (λ c. search needs)
+    (λ c. search needs)
+    (λ c. search needs)
+    (λ c. search needs))
