@@ -1,4 +1,4 @@
--- Laws of what a new node stores and gets from the others, lowest first.
+-- Laws of parts of buffers, of what a new node stores and gets from the others, lowest first.
 pub mod Parts
 pub mod Batch
 pub mod Storing

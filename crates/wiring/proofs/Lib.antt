@@ -1,4 +1,3 @@
 -- Laws of the wire buffer and of the nodes behind each rank, lowest first.
-pub mod Parts
 pub mod OnWire
 pub mod Ranked

@@ -22,7 +22,7 @@ high c =
 
 two-to-requires : tie.Need-two-to-requires
 unfolding node
-two-to-requires c κs = let p = c .before .before .before .pre in omega (arith, node-high (p .0) _ (p .1) .1)
+two-to-requires c κs = let p = c .before .before .before .pre in omega (arith, node-high (p .0) _ (p .1) .1, bounded (p .0) .dead-high)
 
 mul-result : tie.Need-mul-result
 mul-result c = omega (arith, high c)
@@ -32,7 +32,7 @@ bit-high : (c : tie.After-two-to) → c .two-to .result ≤ 4096
 unfolding node
 bit-high c =
     let p = c .before .before .before .before .pre in
-    rw (c .two-to .ensures) (pow-mono {j = 12} (let h = node-high (p .0) _ (p .1) .1 in omega arith))
+    rw (c .two-to .ensures) (pow-mono {j = 12} (let h = node-high (p .0) _ (p .1) .1 in omega (arith, bounded (p .0) .dead-high)))
 
 add-result : tie.Need-add-result
 add-result c = omega (arith, high (c .before), bit-high c)

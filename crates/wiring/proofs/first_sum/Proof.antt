@@ -12,7 +12,7 @@ use Rattle.classes.specs.Steps.{solved}
 use Rattle.solving.specs.Solving.{slots}
 use Rattle.wiring.specs.Wires.{toRank}
 use Rattle.classes.proofs.Layouts.{node-high}
-use Rattle.wiring.proofs.Parts.{tail-length, tail-front}
+use Rattle.steps.proofs.Parts.{tail-length, tail-front}
 use Rattle.wiring.proofs.OnWire.{Room, wire-room, lent-rank, tail-handed}
 use Rattle.wiring.proofs.first_sum.Statement.{statement}
 use Rattle.wiring.proofs.first_sum.Tie as tie
