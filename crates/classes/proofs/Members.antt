@@ -10,12 +10,10 @@ use lib.ListN.{length, getD, set, take, length-append, length-set}
 use lib.Seq.{take-suc-set, take-set-le, getD-take}
 use Rattle.lists.proofs.Picked.{picked-none, picked-yes, picked-no}
 use Rattle.shape.specs.declared.Shape.{Shape}
-use Rattle.classes.specs.declared.Layout.{Layout}
-use Rattle.classes.specs.Classes.{batch, top, classOf, rankClass, Sum, spot, spotAt, inClass, members, sumAt, messageSize}
+use Rattle.classes.specs.Classes.{batch, top, classOf, rankClass, Sum, spot, spotAt, inClass, members, sumAt}
 use Rattle.classes.specs.Layout.{Fronted}
 use Rattle.classes.proofs.Dead.{Dead}
-use Rattle.classes.proofs.Ranks.{rankClass-le}
-use Rattle.classes.proofs.Counts.{members-size, message-is}
+use Rattle.classes.proofs.Counts.{members-size}
 use Rattle.classes.proofs.Sums.{member-found, member-at, sumAt-is}
 use Rattle.classes.proofs.Passes.{spot-number}
 

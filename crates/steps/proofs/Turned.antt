@@ -21,7 +21,7 @@ use Rattle.shape.specs.declared.Shape.{Shape}
 use Rattle.shape.specs.Shape.{mostNodes, size}
 use Rattle.code.specs.Code.{Code}
 use Rattle.classes.specs.declared.Layout.{Layout}
-use Rattle.classes.specs.Classes.{batch, top, node, rankClass, partner, members, placeOf, spot, Sum, sumAt, sumPlace, messageSize}
+use Rattle.classes.specs.Classes.{batch, top, node, rankClass, partner, members, spot, Sum, sumAt, sumPlace, messageSize}
 use Rattle.classes.specs.Steps.{added, helperMessage}
 use Rattle.classes.specs.Layout.{Ready, Fronted}
 use Rattle.classes.proofs.Sizes.{batch-pos}
@@ -31,7 +31,7 @@ use Rattle.classes.proofs.Counts.{message-is}
 use Rattle.classes.proofs.Sums.{member-lt, member-at, sumAt-is, sumAt-all}
 use Rattle.classes.proofs.Layouts.{ready-dead, bounded, placed, share-high}
 use Rattle.classes.proofs.Passes.{messageAt, message-table, spot-number}
-use Rattle.classes.proofs.Members.{member-is, member-sum, member-number, members-few}
+use Rattle.classes.proofs.Members.{member-is, member-sum, members-few}
 use Rattle.steps.specs.Storing.{sumSymbol, Paired, Crossed}
 use Rattle.steps.specs.Batch.{turned, Apart, addedIn, PairedIn, leftIn, Stored}
 use Rattle.steps.proofs.Parts.{row-within}

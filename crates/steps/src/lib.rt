@@ -84,7 +84,12 @@ fn message_with(
         let end = at + block;
         let from = b * count;
         let to = from + count;
-        add_batch(&table[..count], turn, &symbols[at..end], &mut message[from..to]);
+        add_batch(
+            &table[..count],
+            turn,
+            &symbols[at..end],
+            &mut message[from..to],
+        );
     }
 }
 
@@ -137,7 +142,12 @@ fn pairs_with(
         let end = at + block;
         let from = b * double;
         let to = from + double;
-        pair_batch(&table[..count], turn, &pairs[from..to], &mut symbols[at..end]);
+        pair_batch(
+            &table[..count],
+            turn,
+            &pairs[from..to],
+            &mut symbols[at..end],
+        );
     }
 }
 
@@ -198,7 +208,13 @@ fn cross(
         let end = at + block;
         let from = b * count;
         let to = from + count;
-        cross_batch(&table[..count], near, far, &sums[from..to], &mut symbols[at..end]);
+        cross_batch(
+            &table[..count],
+            near,
+            far,
+            &sums[from..to],
+            &mut symbols[at..end],
+        );
     }
 }
 

@@ -1,6 +1,4 @@
 -- `classes::members_of` meets its contract: a table with room for all a is filled from the front. Assumes nothing.
-use mathlib.Core.Path.{_∙_}
-use native.Mathlib.Omega.{arith}
 use borrow.Author.Needs.{needs}
 use Rattle.classes.proofs.Layouts.{bounded}
 use Rattle.classes.proofs.members_of.Statement.{statement}

@@ -1,5 +1,5 @@
 -- `steps::add_batch` meets its contract: what the folded sums leave is the sums. Assumes nothing.
-use mathlib.Core.Path.{_≡_, ap, _∙_}
+use mathlib.Core.Path.{ap, _∙_}
 use borrow.Author.Needs.{needs}
 use lib.ListN.{length}
 use Rattle.lists.specs.Lists.{tabulate}

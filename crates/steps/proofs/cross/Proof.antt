@@ -1,25 +1,18 @@
 -- `steps::cross` meets its contract. Assumes nothing.
-use mathlib.Core.Path.{_≡_, refl, sym, ap, ap₂, _∙_}
-use Prim.Native.Nat.{ℕ, _+_, _-_, _*_, _≤_, _<_}
+use mathlib.Core.Path.{_≡_, sym, ap, _∙_}
+use Prim.Native.Nat.{_+_, _-_, _*_, _≤_, _<_}
 use native.Mathlib.Nat.{mul-le-mul}
 use native.Mathlib.Omega.{arith}
 use lib.ListN.{length, take, drop, length-take, length-drop}
 use Rattle.lists.specs.Lists.{piece}
 use Rattle.code.specs.Code.{narrow}
-use Rattle.classes.proofs.Layouts.{bounded, ready-dead}
+use Rattle.classes.proofs.Layouts.{bounded}
 use Rattle.steps.proofs.Parts.{piece-part}
 use Rattle.steps.proofs.Batch.{Pieces, pieces-none, pieces-more}
 use Rattle.steps.proofs.Turned.{BatchCrossed, turn-high, Tabled, tabled, Room, room, blocks-are, apart-by, crossed-done}
 use borrow.Author.Needs.{needs}
 use Rattle.steps.proofs.cross.Statement.{statement}
 use Rattle.steps.proofs.cross.Tie as tie
-use Rattle.steps.proofs.cross.Reads as reads
-use Rattle.steps.proofs.cross.Lts as lts
-use Rattle.classes.proofs.class_size.Reads as class-size-reads
-use Rattle.classes.proofs.list_members.Reads as list-members-reads
-use Rattle.classes.proofs.rank_class.Reads as rank-class-reads
-use Rattle.steps.proofs.cross_batch.Reads as cross-batch-reads
-use Rattle.sums.proofs.turn_of.Reads as turn-of-reads
 
 abbrev Inv-loop : tie.InvT-loop
 Inv-loop dead u which table sums symbols₀ count turn near far block batches b₀ symbols b =
@@ -37,21 +30,6 @@ known c =
 -- the batch's parts are within their buffers
 part : (c : tie.In-loop Inv-loop μ-loop) → let a = c .before .before .before .before .before .before .before .before .before .before .before .before .before .before .args in Room (a .dead .now) (a .g) (c .before .loop .b) (c .before .before .before .before .class-size .result)
 part c = let st = c .before .before .before .before .before .before .before .before .before .before .before .before .before .before in room (st .pre .0) _ (st .pre .1) _ _ _ (known (c .before)) (c .before .loop .b) (omega arith)
-
-rank-class-requires : tie.Need-rank-class-requires Inv-loop μ-loop
-rank-class-requires c κs = search needs
-
-list-members-requires : tie.Need-list-members-requires Inv-loop μ-loop
-list-members-requires c κs = search needs
-
-class-size-requires : tie.Need-class-size-requires Inv-loop μ-loop
-class-size-requires c κs = search needs
-
-turn-of-requires : tie.Need-turn-of-requires Inv-loop μ-loop
-turn-of-requires c κs = search needs
-
-sub-near : tie.Need-sub-near Inv-loop μ-loop
-sub-near c = search needs
 
 mul-near : tie.Need-mul-near Inv-loop μ-loop
 mul-near c = let st = c .before .before .before .before .before .before .before .before .before .before .before in omega (arith, turn-high (st .pre .0) (st .args .u) (c .turn-of .result) (1 - st .args .which) (st .pre .1) (c .turn-of .ensures) (omega arith))
@@ -86,23 +64,11 @@ slice-aggregate-cross-batch c = let k = known (c .before .before) in k .count-is
 mul-cross-batch : tie.Need-mul-cross-batch Inv-loop μ-loop
 mul-cross-batch c = omega (arith, part (c .before))
 
-sub-cross-batch : tie.Need-sub-cross-batch Inv-loop μ-loop
-sub-cross-batch c = search needs
-
-part-cross-batch-start : tie.Need-part-cross-batch-start Inv-loop μ-loop
-part-cross-batch-start c = search needs
-
 part-cross-batch-end : tie.Need-part-cross-batch-end Inv-loop μ-loop
 part-cross-batch-end c = omega (arith, part (c .before), c .before .before .before .before .before .before .before .before .before .before .before .before .before .before .before .pre .4)
 
 mul-cross-batch-2 : tie.Need-mul-cross-batch-2 Inv-loop μ-loop
 mul-cross-batch-2 c = omega (arith, part (c .before .before))
-
-sub-cross-batch-2 : tie.Need-sub-cross-batch-2 Inv-loop μ-loop
-sub-cross-batch-2 c = search needs
-
-part-cross-batch-start-2 : tie.Need-part-cross-batch-start-2 Inv-loop μ-loop
-part-cross-batch-start-2 c = search needs
 
 part-cross-batch-end-2 : tie.Need-part-cross-batch-end-2 Inv-loop μ-loop
 part-cross-batch-end-2 c = let r = part (c .before .before) in omega (arith, r .block, c .before .before .before .before .before .before .before .before .before .before .before .before .before .before .before .before .pre .5, c .before .before .before .loop .inv .1 .long)
@@ -122,12 +88,6 @@ cross-batch-requires c κs =
     let long : length (take (l .b * block + block - l .b * block) (drop (l .b * block) (l .symbols))) ≡ block = simp (length-take, length-drop) (omega (arith, r .block, st .pre .5, l .inv .1 .long)) in
     let h : l .b < st .args .g .batches = omega arith in
     (rw long (apart-by (st .pre .0) _ (st .pre .1) _ _ _ k (l .b) h (st .args .which) (st .pre .3)), rw n (simp (length-take, length-drop) (omega (arith, r .sums, st .pre .4))))
-
-add-b : tie.Need-add-b Inv-loop μ-loop
-add-b c = search needs
-
-loop-less : tie.Need-loop-less Inv-loop μ-loop
-loop-less c = search needs
 
 loop-again : tie.Need-loop-again Inv-loop μ-loop
 loop-again c =
@@ -169,11 +129,11 @@ cross-spec =
     (tie.spec
     Inv-loop
     μ-loop
-    rank-class-requires
-    list-members-requires
-    class-size-requires
-    turn-of-requires
-    sub-near
+    (λ c κs. search needs)
+    (λ c κs. search needs)
+    (λ c κs. search needs)
+    (λ c κs. search needs)
+    (λ c. search needs)
     mul-near
     mul-far
     mul-block
@@ -185,16 +145,16 @@ cross-spec =
     slice-reshare-prefix-cross-batch
     slice-aggregate-cross-batch
     mul-cross-batch
-    sub-cross-batch
-    part-cross-batch-start
+    (λ c. search needs)
+    (λ c. search needs)
     part-cross-batch-end
     mul-cross-batch-2
-    sub-cross-batch-2
-    part-cross-batch-start-2
+    (λ c. search needs)
+    (λ c. search needs)
     part-cross-batch-end-2
     cross-batch-requires
-    add-b
-    loop-less
+    (λ c. search needs)
+    (λ c. search needs)
     loop-again
     same-length
     same-length-2

@@ -1,19 +1,16 @@
 -- `steps::cross_batch` meets its contract. Assumes nothing.
-use mathlib.Core.Path.{_≡_, refl, sym, ap, ap₂, _∙_}
-use Prim.Native.Nat.{ℕ, _+_, _-_, _*_, _≤_, _<_}
+use mathlib.Core.Path.{_≡_, refl, sym, ap, _∙_}
+use Prim.Native.Nat.{_-_, _≤_, _<_}
 use native.Mathlib.Omega.{arith}
 use lib.Bits.{bitXor}
-use lib.ListN.{length, getD, length-set}
+use lib.ListN.{length, getD}
 use Rattle.code.specs.Code.{narrow}
 use Rattle.field.specs.Residues.{minus}
 use Rattle.steps.specs.Batch.{turned, leftIn, Stored}
-use Rattle.steps.proofs.Batch.{turned-is, turned-none, stored-none, stored-more}
+use Rattle.steps.proofs.Batch.{turned-is, stored-none, stored-more}
 use borrow.Author.Needs.{needs}
 use Rattle.steps.proofs.cross_batch.Statement.{statement}
 use Rattle.steps.proofs.cross_batch.Tie as tie
-use Rattle.steps.proofs.cross_batch.Reads as reads
-use Rattle.steps.proofs.cross_batch.Lts as lts
-use Rattle.steps.proofs.difference.Reads as difference-reads
 
 abbrev Inv-loop : tie.InvT-loop
 Inv-loop members near far sums symbols₀ x₀ x-end symbols x =
@@ -36,20 +33,8 @@ here c =
     let l : x < length (st .args .members .now) = omega arith in
     rw (c .before .loop .inv .2 .long) (rw turned-is at (st .pre .0 .near-low x l), rw turned-is at (st .pre .0 .far-low x l))
 
-mul-a : tie.Need-mul-a Inv-loop μ-loop
-mul-a c = search needs
-
-shared-slice-read-a : tie.Need-shared-slice-read-a Inv-loop μ-loop
-shared-slice-read-a c = search needs
-
 cast-a : tie.Need-cast-a Inv-loop μ-loop
 cast-a c = omega (arith, c .shared-slice-known3 .given (c .before .before .loop .x))
-
-mul-difference : tie.Need-mul-difference Inv-loop μ-loop
-mul-difference c = search needs
-
-shared-slice-read-difference : tie.Need-shared-slice-read-difference Inv-loop μ-loop
-shared-slice-read-difference c = search needs
 
 mul-difference-2 : tie.Need-mul-difference-2 Inv-loop μ-loop
 mul-difference-2 c = omega (arith, here (c .before .before) .0)
@@ -57,20 +42,11 @@ mul-difference-2 c = omega (arith, here (c .before .before) .0)
 slice-read-difference : tie.Need-slice-read-difference Inv-loop μ-loop
 slice-read-difference c = here (c .before .before .before) .0
 
-difference-requires : tie.Need-difference-requires Inv-loop μ-loop
-difference-requires c κs = search needs
-
 mul-symbols : tie.Need-mul-symbols Inv-loop μ-loop
 mul-symbols c = omega (arith, here (c .before .before .before .before) .1)
 
 slice-write-symbols : tie.Need-slice-write-symbols Inv-loop μ-loop
 slice-write-symbols c = here (c .before .before .before .before) .1
-
-add-x : tie.Need-add-x Inv-loop μ-loop
-add-x c = search needs
-
-loop-less : tie.Need-loop-less Inv-loop μ-loop
-loop-less c = search needs
 
 loop-again : tie.Need-loop-again Inv-loop μ-loop
 unfolding leftIn
@@ -108,18 +84,18 @@ cross-batch-spec =
     Inv-loop
     μ-loop
     loop-holds
-    mul-a
-    shared-slice-read-a
+    (λ c. search needs)
+    (λ c. search needs)
     cast-a
-    mul-difference
-    shared-slice-read-difference
+    (λ c. search needs)
+    (λ c. search needs)
     mul-difference-2
     slice-read-difference
-    difference-requires
+    (λ c κs. search needs)
     mul-symbols
     slice-write-symbols
-    add-x
-    loop-less
+    (λ c. search needs)
+    (λ c. search needs)
     loop-again
     same-length
     returns)

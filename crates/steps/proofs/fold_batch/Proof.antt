@@ -1,18 +1,15 @@
 -- `steps::fold_batch` meets its contract. Assumes nothing.
-use mathlib.Core.Path.{_≡_, refl, sym, ap, ap₂, _∙_}
-use Prim.Native.Nat.{ℕ, _+_, _-_, _*_, _≤_, _<_}
+use mathlib.Core.Path.{_≡_, refl, _∙_}
+use Prim.Native.Nat.{_-_, _≤_, _<_}
 use native.Mathlib.Omega.{arith}
 use lib.Bits.{bitXor}
 use lib.ListN.{length, getD, length-set}
 use Rattle.code.specs.Code.{narrow}
-use Rattle.steps.specs.Batch.{turned, addedIn, Remain}
+use Rattle.steps.specs.Batch.{addedIn, Remain}
 use Rattle.steps.proofs.Batch.{turned-is, turned-none, remain-none, remain-more}
 use borrow.Author.Needs.{needs}
 use Rattle.steps.proofs.fold_batch.Statement.{statement}
 use Rattle.steps.proofs.fold_batch.Tie as tie
-use Rattle.steps.proofs.fold_batch.Reads as reads
-use Rattle.steps.proofs.fold_batch.Lts as lts
-use Rattle.steps.proofs.folded.Reads as folded-reads
 
 abbrev Inv-loop : tie.InvT-loop
 Inv-loop members turn symbols sums₀ x₀ x-end sums x =
@@ -35,12 +32,6 @@ here c =
     let l : x < length (st .args .members .now) = omega arith in
     (rw turned-none at (A .near-low x l), rw turned-is at (A .far-low x l))
 
-mul-a : tie.Need-mul-a Inv-loop μ-loop
-mul-a c = search needs
-
-shared-slice-read-a : tie.Need-shared-slice-read-a Inv-loop μ-loop
-shared-slice-read-a c = search needs
-
 cast-a : tie.Need-cast-a Inv-loop μ-loop
 cast-a c = omega (arith, c .shared-slice-known3 .given (c .before .before .loop .x))
 
@@ -56,21 +47,6 @@ mul-folded-2 c = omega (arith, here (c .before .before) .1)
 shared-slice-read-folded-2 : tie.Need-shared-slice-read-folded-2 Inv-loop μ-loop
 shared-slice-read-folded-2 c = here (c .before .before .before) .1
 
-folded-requires : tie.Need-folded-requires Inv-loop μ-loop
-folded-requires c κs = search needs
-
-mul-sums : tie.Need-mul-sums Inv-loop μ-loop
-mul-sums c = search needs
-
-slice-write-sums : tie.Need-slice-write-sums Inv-loop μ-loop
-slice-write-sums c = search needs
-
-add-x : tie.Need-add-x Inv-loop μ-loop
-add-x c = search needs
-
-loop-less : tie.Need-loop-less Inv-loop μ-loop
-loop-less c = search needs
-
 loop-again : tie.Need-loop-again Inv-loop μ-loop
 unfolding addedIn
 loop-again c =
@@ -81,9 +57,6 @@ loop-again c =
       simp length-set (l .inv .2),
       remain-more (narrow .modulus) (l .x) _ (addedIn narrow (a .members .now) (a .turn) (a .symbols .now)) (l .sums) (l .inv .3) (omega arith) (c .folded .ensures ∙ rw (turned-none, turned-is)),
     )
-
-same-length : tie.Need-same-length Inv-loop μ-loop
-same-length c = search needs
 
 returns : tie.Need-returns Inv-loop μ-loop
 returns c =
@@ -99,18 +72,18 @@ fold-batch-spec =
     Inv-loop
     μ-loop
     loop-holds
-    mul-a
-    shared-slice-read-a
+    (λ c. search needs)
+    (λ c. search needs)
     cast-a
     mul-folded
     shared-slice-read-folded
     mul-folded-2
     shared-slice-read-folded-2
-    folded-requires
-    mul-sums
-    slice-write-sums
-    add-x
-    loop-less
+    (λ c κs. search needs)
+    (λ c. search needs)
+    (λ c. search needs)
+    (λ c. search needs)
+    (λ c. search needs)
     loop-again
-    same-length
+    (λ c. search needs)
     returns)

@@ -1,6 +1,6 @@
 -- `steps::message_with` meets its contract. Assumes nothing.
-use mathlib.Core.Path.{_≡_, refl, sym, ap, ap₂, _∙_}
-use Prim.Native.Nat.{ℕ, _+_, _-_, _*_, _≤_, _<_}
+use mathlib.Core.Path.{_≡_, sym, ap, _∙_}
+use Prim.Native.Nat.{_+_, _-_, _*_, _≤_}
 use native.Mathlib.Nat.{mul-le-mul}
 use native.Mathlib.Omega.{arith}
 use lib.ListN.{length, take, drop, length-take, length-drop}
@@ -8,20 +8,13 @@ use Rattle.lists.specs.Lists.{tabulate}
 use Rattle.lists.proofs.Tables.{tabulate-length}
 use Rattle.steps.specs.Batch.{addedIn}
 use Rattle.code.specs.Code.{narrow}
-use Rattle.classes.proofs.Layouts.{bounded, ready-dead}
+use Rattle.classes.proofs.Layouts.{bounded}
 use Rattle.steps.proofs.Parts.{piece-part}
 use Rattle.steps.proofs.Batch.{Pieces, pieces-none, pieces-more}
 use Rattle.steps.proofs.Turned.{BatchAdded, Tabled, tabled, Room, room, sums-are, apart-other, message-done}
 use borrow.Author.Needs.{needs}
 use Rattle.steps.proofs.message_with.Statement.{statement}
 use Rattle.steps.proofs.message_with.Tie as tie
-use Rattle.steps.proofs.message_with.Reads as reads
-use Rattle.steps.proofs.message_with.Lts as lts
-use Rattle.classes.proofs.class_size.Reads as class-size-reads
-use Rattle.classes.proofs.list_members.Reads as list-members-reads
-use Rattle.classes.proofs.rank_class.Reads as rank-class-reads
-use Rattle.steps.proofs.add_batch.Reads as add-batch-reads
-use Rattle.sums.proofs.turn_of.Reads as turn-of-reads
 
 abbrev Inv-loop : tie.InvT-loop
 Inv-loop dead u table symbols message₀ count turn block batches b₀ message b =
@@ -39,18 +32,6 @@ known c =
 -- the batch's parts are within their buffers
 part : (c : tie.In-loop Inv-loop μ-loop) → let a = c .before .before .before .before .before .before .before .before .before .before .before .before .before .before .args in Room (a .dead .now) (a .g) (c .before .loop .b) (c .before .before .before .before .class-size .result)
 part c = let st = c .before .before .before .before .before .before .before .before .before .before .before .before .before .before in room (st .pre .0) _ (st .pre .1) _ _ _ (known (c .before)) (c .before .loop .b) (omega arith)
-
-rank-class-requires : tie.Need-rank-class-requires Inv-loop μ-loop
-rank-class-requires c κs = search needs
-
-list-members-requires : tie.Need-list-members-requires Inv-loop μ-loop
-list-members-requires c κs = search needs
-
-class-size-requires : tie.Need-class-size-requires Inv-loop μ-loop
-class-size-requires c κs = search needs
-
-turn-of-requires : tie.Need-turn-of-requires Inv-loop μ-loop
-turn-of-requires c κs = search needs
 
 mul-block : tie.Need-mul-block Inv-loop μ-loop
 mul-block c = let b = bounded (c .before .before .before .before .before .before .before .before .before .before .before .before .pre .0) in omega (arith, mul-le-mul {n₂ = 12} {m₂ = 4096} (b .batch-high) (b .places-high))
@@ -79,23 +60,11 @@ slice-aggregate-add-batch c = let k = known (c .before .before) in k .count-is �
 mul-add-batch : tie.Need-mul-add-batch Inv-loop μ-loop
 mul-add-batch c = omega (arith, part (c .before))
 
-sub-add-batch : tie.Need-sub-add-batch Inv-loop μ-loop
-sub-add-batch c = search needs
-
-part-add-batch-start : tie.Need-part-add-batch-start Inv-loop μ-loop
-part-add-batch-start c = search needs
-
 part-add-batch-end : tie.Need-part-add-batch-end Inv-loop μ-loop
 part-add-batch-end c = omega (arith, part (c .before))
 
 mul-add-batch-2 : tie.Need-mul-add-batch-2 Inv-loop μ-loop
 mul-add-batch-2 c = omega (arith, part (c .before .before))
-
-sub-add-batch-2 : tie.Need-sub-add-batch-2 Inv-loop μ-loop
-sub-add-batch-2 c = search needs
-
-part-add-batch-start-2 : tie.Need-part-add-batch-start-2 Inv-loop μ-loop
-part-add-batch-start-2 c = search needs
 
 part-add-batch-end-2 : tie.Need-part-add-batch-end-2 Inv-loop μ-loop
 part-add-batch-end-2 c = let r = part (c .before .before) in omega (arith, r .sums, c .before .before .before .before .before .before .before .before .before .before .before .before .before .before .before .before .pre .4, c .before .before .before .loop .inv .1 .long)
@@ -109,12 +78,6 @@ add-batch-requires c κs =
     let n : length (take (i .before .before .before .before .class-size .result) (i .before .before .before .before .before .before .before .list-members .last .1 .1 .1 .0)) ≡ i .before .before .before .before .class-size .result = ap length (k .front) ∙ sym (k .count-is) in
     let e : length (take (i .before .loop .b * (st .args .g .batch * st .args .g .places) + st .args .g .batch * st .args .g .places - i .before .loop .b * (st .args .g .batch * st .args .g .places)) (drop (i .before .loop .b * (st .args .g .batch * st .args .g .places)) (st .args .symbols .now))) ≡ st .args .g .batch * st .args .g .places = simp (length-take, length-drop) (omega (arith, r .block, st .pre .3)) in
     (rw e (apart-other (st .pre .0) _ (st .pre .1) _ _ _ k (i .before .loop .b) (omega arith)), rw n (simp (length-take, length-drop) (omega (arith, r .sums, st .pre .4, i .before .loop .inv .1 .long))))
-
-add-b : tie.Need-add-b Inv-loop μ-loop
-add-b c = search needs
-
-loop-less : tie.Need-loop-less Inv-loop μ-loop
-loop-less c = search needs
 
 loop-again : tie.Need-loop-again Inv-loop μ-loop
 loop-again c =
@@ -152,10 +115,10 @@ message-with-spec =
     (tie.spec
     Inv-loop
     μ-loop
-    rank-class-requires
-    list-members-requires
-    class-size-requires
-    turn-of-requires
+    (λ c κs. search needs)
+    (λ c κs. search needs)
+    (λ c κs. search needs)
+    (λ c κs. search needs)
     mul-block
     loop-holds
     mul-at
@@ -165,16 +128,16 @@ message-with-spec =
     slice-reshare-prefix-add-batch
     slice-aggregate-add-batch
     mul-add-batch
-    sub-add-batch
-    part-add-batch-start
+    (λ c. search needs)
+    (λ c. search needs)
     part-add-batch-end
     mul-add-batch-2
-    sub-add-batch-2
-    part-add-batch-start-2
+    (λ c. search needs)
+    (λ c. search needs)
     part-add-batch-end-2
     add-batch-requires
-    add-b
-    loop-less
+    (λ c. search needs)
+    (λ c. search needs)
     loop-again
     same-length
     same-length-2

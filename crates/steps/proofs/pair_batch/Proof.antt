@@ -1,17 +1,14 @@
 -- `steps::pair_batch` meets its contract. Assumes nothing.
-use mathlib.Core.Path.{_≡_, refl, sym, ap, ap₂, _∙_}
-use Prim.Native.Nat.{ℕ, _+_, _-_, _*_, _≤_, _<_}
+use mathlib.Core.Path.{_≡_, refl, sym, ap}
+use Prim.Native.Nat.{_+_, _-_, _*_, _≤_, _<_}
 use native.Mathlib.Omega.{arith}
 use lib.Bits.{bitXor}
 use lib.ListN.{length, getD, length-set}
-use Rattle.code.specs.Code.{narrow}
-use Rattle.steps.specs.Batch.{turned, PairedIn}
+use Rattle.steps.specs.Batch.{PairedIn}
 use Rattle.steps.proofs.Batch.{turned-is, turned-none, paired-none, paired-more}
 use borrow.Author.Needs.{needs}
 use Rattle.steps.proofs.pair_batch.Statement.{statement}
 use Rattle.steps.proofs.pair_batch.Tie as tie
-use Rattle.steps.proofs.pair_batch.Reads as reads
-use Rattle.steps.proofs.pair_batch.Lts as lts
 
 abbrev Inv-loop : tie.InvT-loop
 Inv-loop members turn pairs symbols₀ x₀ x-end symbols x =
@@ -34,23 +31,8 @@ here c =
     let l : x < length (st .args .members .now) = omega arith in
     rw (c .before .loop .inv .2) (rw turned-none at (st .pre .0 .near-low x l), rw turned-is at (st .pre .0 .far-low x l))
 
-mul-a : tie.Need-mul-a Inv-loop μ-loop
-mul-a c = search needs
-
-shared-slice-read-a : tie.Need-shared-slice-read-a Inv-loop μ-loop
-shared-slice-read-a c = search needs
-
 cast-a : tie.Need-cast-a Inv-loop μ-loop
 cast-a c = omega (arith, c .shared-slice-known .given (c .before .before .loop .x))
-
-mul-symbols : tie.Need-mul-symbols Inv-loop μ-loop
-mul-symbols c = search needs
-
-mul-symbols-2 : tie.Need-mul-symbols-2 Inv-loop μ-loop
-mul-symbols-2 c = search needs
-
-shared-slice-read-symbols : tie.Need-shared-slice-read-symbols Inv-loop μ-loop
-shared-slice-read-symbols c = search needs
 
 mul-symbols-3 : tie.Need-mul-symbols-3 Inv-loop μ-loop
 mul-symbols-3 c = omega (arith, here (c .before .before) .0)
@@ -58,29 +40,11 @@ mul-symbols-3 c = omega (arith, here (c .before .before) .0)
 slice-write-symbols : tie.Need-slice-write-symbols Inv-loop μ-loop
 slice-write-symbols c = here (c .before .before) .0
 
-mul-symbols-4 : tie.Need-mul-symbols-4 Inv-loop μ-loop
-mul-symbols-4 c = search needs
-
-add-symbols : tie.Need-add-symbols Inv-loop μ-loop
-add-symbols c = search needs
-
-mul-symbols-5 : tie.Need-mul-symbols-5 Inv-loop μ-loop
-mul-symbols-5 c = search needs
-
-shared-slice-read-symbols-2 : tie.Need-shared-slice-read-symbols-2 Inv-loop μ-loop
-shared-slice-read-symbols-2 c = search needs
-
 mul-symbols-6 : tie.Need-mul-symbols-6 Inv-loop μ-loop
 mul-symbols-6 c = omega (arith, here (c .before .before .before) .1)
 
 slice-write-symbols-2 : tie.Need-slice-write-symbols-2 Inv-loop μ-loop
 slice-write-symbols-2 c = simp length-set (here (c .before .before .before) .1)
-
-add-x : tie.Need-add-x Inv-loop μ-loop
-add-x c = search needs
-
-loop-less : tie.Need-loop-less Inv-loop μ-loop
-loop-less c = search needs
 
 loop-again : tie.Need-loop-again Inv-loop μ-loop
 loop-again c =
@@ -92,9 +56,6 @@ loop-again c =
       paired-more _ _ _ (l .x) _ _ _ _ _ (l .symbols) (st .pre .0) (st .pre .1) (l .inv .3) (omega arith) (l .inv .2) (sym (turned-none _ _)) (sym (turned-is _ _ _))
           (ap (λ z. getD (st .args .pairs .now) z 0) (let z : l .x * 2 ≡ l .x * 2 + 0 = omega arith in z)) refl,
     )
-
-same-length : tie.Need-same-length Inv-loop μ-loop
-same-length c = search needs
 
 returns : tie.Need-returns Inv-loop μ-loop
 returns c =
@@ -110,22 +71,22 @@ pair-batch-spec =
     Inv-loop
     μ-loop
     loop-holds
-    mul-a
-    shared-slice-read-a
+    (λ c. search needs)
+    (λ c. search needs)
     cast-a
-    mul-symbols
-    mul-symbols-2
-    shared-slice-read-symbols
+    (λ c. search needs)
+    (λ c. search needs)
+    (λ c. search needs)
     mul-symbols-3
     slice-write-symbols
-    mul-symbols-4
-    add-symbols
-    mul-symbols-5
-    shared-slice-read-symbols-2
+    (λ c. search needs)
+    (λ c. search needs)
+    (λ c. search needs)
+    (λ c. search needs)
     mul-symbols-6
     slice-write-symbols-2
-    add-x
-    loop-less
+    (λ c. search needs)
+    (λ c. search needs)
     loop-again
-    same-length
+    (λ c. search needs)
     returns)

@@ -1,25 +1,17 @@
 -- `steps::pairs_with` meets its contract. Assumes nothing.
-use mathlib.Core.Path.{_≡_, refl, sym, ap, ap₂, _∙_}
-use Prim.Native.Nat.{ℕ, _+_, _-_, _*_, _≤_, _<_}
+use mathlib.Core.Path.{_≡_, sym, ap, _∙_}
+use Prim.Native.Nat.{_+_, _-_, _*_, _≤_, _<_}
 use native.Mathlib.Nat.{mul-le-mul}
 use native.Mathlib.Omega.{arith}
 use lib.ListN.{length, take, drop, length-take, length-drop}
 use Rattle.lists.specs.Lists.{piece}
-use Rattle.code.specs.Code.{narrow}
-use Rattle.classes.proofs.Layouts.{bounded, ready-dead}
+use Rattle.classes.proofs.Layouts.{bounded}
 use Rattle.steps.proofs.Parts.{piece-part}
 use Rattle.steps.proofs.Batch.{Pieces, pieces-none, pieces-more}
 use Rattle.steps.proofs.Turned.{BatchPaired, Tabled, tabled, Room, room, blocks-are, apart-first, apart-other, paired-done}
 use borrow.Author.Needs.{needs}
 use Rattle.steps.proofs.pairs_with.Statement.{statement}
 use Rattle.steps.proofs.pairs_with.Tie as tie
-use Rattle.steps.proofs.pairs_with.Reads as reads
-use Rattle.steps.proofs.pairs_with.Lts as lts
-use Rattle.classes.proofs.class_size.Reads as class-size-reads
-use Rattle.classes.proofs.list_members.Reads as list-members-reads
-use Rattle.classes.proofs.rank_class.Reads as rank-class-reads
-use Rattle.steps.proofs.pair_batch.Reads as pair-batch-reads
-use Rattle.sums.proofs.turn_of.Reads as turn-of-reads
 
 abbrev Inv-loop : tie.InvT-loop
 Inv-loop dead u table pairs symbols₀ count turn block double batches b₀ symbols b =
@@ -37,18 +29,6 @@ known c =
 -- the batch's parts are within their buffers
 part : (c : tie.In-loop Inv-loop μ-loop) → let a = c .before .before .before .before .before .before .before .before .before .before .before .before .before .before .args in Room (a .dead .now) (a .g) (c .before .loop .b) (c .before .before .before .before .class-size .result)
 part c = let st = c .before .before .before .before .before .before .before .before .before .before .before .before .before .before in room (st .pre .0) _ (st .pre .1) _ _ _ (known (c .before)) (c .before .loop .b) (omega arith)
-
-rank-class-requires : tie.Need-rank-class-requires Inv-loop μ-loop
-rank-class-requires c κs = search needs
-
-list-members-requires : tie.Need-list-members-requires Inv-loop μ-loop
-list-members-requires c κs = search needs
-
-class-size-requires : tie.Need-class-size-requires Inv-loop μ-loop
-class-size-requires c κs = search needs
-
-turn-of-requires : tie.Need-turn-of-requires Inv-loop μ-loop
-turn-of-requires c κs = search needs
 
 mul-block : tie.Need-mul-block Inv-loop μ-loop
 mul-block c = let b = bounded (c .before .before .before .before .before .before .before .before .before .before .before .before .pre .0) in omega (arith, mul-le-mul {n₂ = 12} {m₂ = 4096} (b .batch-high) (b .places-high))
@@ -85,23 +65,11 @@ slice-aggregate-pair-batch c = let k = known (c .before .before) in k .count-is 
 mul-pair-batch : tie.Need-mul-pair-batch Inv-loop μ-loop
 mul-pair-batch c = omega (arith, part (c .before))
 
-sub-pair-batch : tie.Need-sub-pair-batch Inv-loop μ-loop
-sub-pair-batch c = search needs
-
-part-pair-batch-start : tie.Need-part-pair-batch-start Inv-loop μ-loop
-part-pair-batch-start c = search needs
-
 part-pair-batch-end : tie.Need-part-pair-batch-end Inv-loop μ-loop
 part-pair-batch-end c = omega (arith, part (c .before), c .before .before .before .before .before .before .before .before .before .before .before .before .before .before .before .pre .3)
 
 mul-pair-batch-2 : tie.Need-mul-pair-batch-2 Inv-loop μ-loop
 mul-pair-batch-2 c = omega (arith, part (c .before .before))
-
-sub-pair-batch-2 : tie.Need-sub-pair-batch-2 Inv-loop μ-loop
-sub-pair-batch-2 c = search needs
-
-part-pair-batch-start-2 : tie.Need-part-pair-batch-start-2 Inv-loop μ-loop
-part-pair-batch-start-2 c = search needs
 
 part-pair-batch-end-2 : tie.Need-part-pair-batch-end-2 Inv-loop μ-loop
 part-pair-batch-end-2 c = let r = part (c .before .before) in omega (arith, r .block, c .before .before .before .before .before .before .before .before .before .before .before .before .before .before .before .before .pre .4, c .before .before .before .loop .inv .1 .long)
@@ -124,12 +92,6 @@ pair-batch-requires c κs =
       rw long (apart-first (st .pre .0) _ (st .pre .1) _ _ _ k (l .b) h),
       rw n (simp (length-take, length-drop) (omega (arith, r .sums, st .pre .3))),
     )
-
-add-b : tie.Need-add-b Inv-loop μ-loop
-add-b c = search needs
-
-loop-less : tie.Need-loop-less Inv-loop μ-loop
-loop-less c = search needs
 
 loop-again : tie.Need-loop-again Inv-loop μ-loop
 loop-again c =
@@ -171,10 +133,10 @@ pairs-with-spec =
     (tie.spec
     Inv-loop
     μ-loop
-    rank-class-requires
-    list-members-requires
-    class-size-requires
-    turn-of-requires
+    (λ c κs. search needs)
+    (λ c κs. search needs)
+    (λ c κs. search needs)
+    (λ c κs. search needs)
     mul-block
     mul-double
     loop-holds
@@ -185,16 +147,16 @@ pairs-with-spec =
     slice-reshare-prefix-pair-batch
     slice-aggregate-pair-batch
     mul-pair-batch
-    sub-pair-batch
-    part-pair-batch-start
+    (λ c. search needs)
+    (λ c. search needs)
     part-pair-batch-end
     mul-pair-batch-2
-    sub-pair-batch-2
-    part-pair-batch-start-2
+    (λ c. search needs)
+    (λ c. search needs)
     part-pair-batch-end-2
     pair-batch-requires
-    add-b
-    loop-less
+    (λ c. search needs)
+    (λ c. search needs)
     loop-again
     same-length
     same-length-2

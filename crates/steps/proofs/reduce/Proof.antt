@@ -1,6 +1,6 @@
 -- `steps::reduce` meets its contract. Assumes nothing.
-use mathlib.Core.Path.{_≡_, refl, sym, ap, _∙_}
-use Prim.Native.Nat.{ℕ, _+_, _-_, _%_, _≤_, _<_}
+use mathlib.Core.Path.{_≡_, refl, ap}
+use Prim.Native.Nat.{_-_, _%_, _≤_}
 use native.Mathlib.Omega.{arith}
 use lib.ListN.{length, getD}
 use Rattle.lists.proofs.Tables.{is-tabulate}
@@ -10,8 +10,6 @@ use Rattle.steps.proofs.Batch.{stored-none, stored-more}
 use borrow.Author.Needs.{needs}
 use Rattle.steps.proofs.reduce.Statement.{statement}
 use Rattle.steps.proofs.reduce.Tie as tie
-use Rattle.steps.proofs.reduce.Reads as reads
-use Rattle.steps.proofs.reduce.Lts as lts
 
 abbrev Inv-loop : tie.InvT-loop
 Inv-loop sums₀ q x₀ x-end sums x = (x ≤ x-end) × (x-end ≡ length sums₀) × Stored x (λ i. i) (remainder (narrow .modulus) sums₀) sums₀ sums
@@ -19,32 +17,8 @@ Inv-loop sums₀ q x₀ x-end sums x = (x ≤ x-end) × (x-end ≡ length sums�
 abbrev μ-loop : tie.MeasureT-loop
 μ-loop sums₀ q x₀ x-end sums x = x-end - x
 
-cast-q : tie.Need-cast-q Inv-loop μ-loop
-cast-q c = search needs
-
 loop-holds : tie.Need-loop-holds Inv-loop μ-loop
 loop-holds c = (search needs, refl, stored-none _ _ _)
-
-mul-sums : tie.Need-mul-sums Inv-loop μ-loop
-mul-sums c = search needs
-
-slice-read-sums : tie.Need-slice-read-sums Inv-loop μ-loop
-slice-read-sums c = search needs
-
-rem-sums : tie.Need-rem-sums Inv-loop μ-loop
-rem-sums c = search needs
-
-mul-sums-2 : tie.Need-mul-sums-2 Inv-loop μ-loop
-mul-sums-2 c = search needs
-
-slice-write-sums : tie.Need-slice-write-sums Inv-loop μ-loop
-slice-write-sums c = search needs
-
-add-x : tie.Need-add-x Inv-loop μ-loop
-add-x c = search needs
-
-loop-less : tie.Need-loop-less Inv-loop μ-loop
-loop-less c = search needs
 
 loop-again : tie.Need-loop-again Inv-loop μ-loop
 unfolding remainder
@@ -70,15 +44,15 @@ reduce-spec =
     (tie.spec
     Inv-loop
     μ-loop
-    cast-q
+    (λ c. search needs)
     loop-holds
-    mul-sums
-    slice-read-sums
-    rem-sums
-    mul-sums-2
-    slice-write-sums
-    add-x
-    loop-less
+    (λ c. search needs)
+    (λ c. search needs)
+    (λ c. search needs)
+    (λ c. search needs)
+    (λ c. search needs)
+    (λ c. search needs)
+    (λ c. search needs)
     loop-again
     same-length
     returns)

@@ -1,6 +1,6 @@
 -- `sums::turn_of` meets its contract: the partner layer and the node's bit, in the numbers of the layout. Assumes nothing.
-use mathlib.Core.Path.{_≡_, ap, ap₂}
-use Prim.Native.Nat.{_*_, _+_, _≤_, _<_, _^_}
+use mathlib.Core.Path.{ap₂}
+use Prim.Native.Nat.{_*_, _+_, _≤_}
 use native.Mathlib.Nat.{mul-le-mul}
 use native.Mathlib.Omega.{arith}
 use borrow.Author.Needs.{needs}
