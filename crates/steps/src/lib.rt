@@ -12,9 +12,9 @@ ghost use Prim.Native.Nat.{_+_, _-_, _*_, _%_, _≤_, _<_};
 ghost use lib.ListN.{length};
 ghost use Rattle.lists.specs.Lists.{element, tabulate};
 ghost use Rattle.shape.specs.Shape.{size};
-ghost use Rattle.classes.specs.Classes.{messageSize};
+ghost use Rattle.classes.specs.Classes.{rankClass, messageSize};
 ghost use Rattle.classes.specs.Steps.{helperMessage, place};
-ghost use Rattle.classes.specs.Layout.{Ready};
+ghost use Rattle.classes.specs.Layout.{Ready, Fronted};
 ghost use Rattle.steps.specs.Storing.{Paired, sentBy, Crossed, Begun, Recovers};
 ghost use Rattle.steps.specs.Batch.{Apart, addedIn, Remain, remainder, PairedIn, leftIn, Stored, turned};
 ghost use Rattle.field.specs.Residues.{minus};
@@ -183,20 +183,19 @@ fn cross_batch(members: &[u16], near: usize, far: usize, sums: &[u16], symbols: 
     }
 }
 
-// Stores at the places `which` of rank u's sums each sum less the symbol at its other place.
+// Stores at the places `which` of rank u's sums each sum less the symbol at its other place; the table has the members of the rank's class.
 fn cross(
     g: Layout,
     dead: &[usize],
     u: usize,
     which: usize,
-    table: &mut [u16],
+    table: &[u16],
     sums: &[u16],
     symbols: &mut [u16],
 )
-    requires { ⌜ (Ready (now dead) g) × (u < length (now dead)) × (g .places ≤ length (now table)) × (which < 2) × (length (now sums) ≡ messageSize (g .shape) (now dead)) × (length (now symbols) ≡ size (g .shape)) ⌝ }
+    requires { ⌜ (Ready (now dead) g) × (u < length (now dead)) × (g .places ≤ length (now table)) × (Fronted (now dead) (rankClass (now dead) u) (g .shape .n) (now table)) × (which < 2) × (length (now sums) ≡ messageSize (g .shape) (now dead)) × (length (now symbols) ≡ size (g .shape)) ⌝ }
     ensures { λ _. ⌜ Crossed narrow (g .shape) (now (dead .entry)) u which (element (now (sums .entry))) (now (symbols .entry)) (now (symbols .exit)) ⌝ }
 {
-    list_members(g, dead, rank_class(g, dead, u), table);
     let count = class_size(g, dead);
     let turn = turn_of(g, dead, u);
     let near = turn * (1 - which);
@@ -225,11 +224,11 @@ fn cross_from(
     v: usize,
     u: usize,
     which: usize,
-    table: &mut [u16],
+    table: &[u16],
     received: &[u16],
     symbols: &mut [u16],
 )
-    requires { ⌜ (Ready (now dead) g) × (v < length (now dead)) × (u < length (now dead)) × (u ≡ v → ⊥) × (which < 2) × (g .places ≤ length (now table)) ⌝ }
+    requires { ⌜ (Ready (now dead) g) × (v < length (now dead)) × (u < length (now dead)) × (u ≡ v → ⊥) × (which < 2) × (g .places ≤ length (now table)) × (Fronted (now dead) (rankClass (now dead) u) (g .shape .n) (now table)) ⌝ }
     requires { ⌜ (length (now received) ≡ (length (now dead) - 1) * messageSize (g .shape) (now dead)) × (length (now symbols) ≡ size (g .shape)) ⌝ }
     ensures { λ _. ⌜ Crossed narrow (g .shape) (now (dead .entry)) u which (sentBy (g .shape) (now (dead .entry)) v (now (received .entry)) u) (now (symbols .entry)) (now (symbols .exit)) ⌝ }
 {
@@ -240,16 +239,16 @@ fn cross_from(
 }
 
 // "A node whose class in the table is c, not 0, first gets class 0 of layer 0 from its own class c and the message of rank s × (c−1)."
-// Returns that rank, or h where the class is 0.
+// Returns that rank, or h where the class is 0. The table has the members of class 0.
 fn begin(
     g: Layout,
     dead: &[usize],
     v: usize,
-    table: &mut [u16],
+    table: &[u16],
     received: &[u16],
     symbols: &mut [u16],
 ) -> usize
-    requires { ⌜ (Ready (now dead) g) × (v < length (now dead)) × (g .places ≤ length (now table)) ⌝ }
+    requires { ⌜ (Ready (now dead) g) × (v < length (now dead)) × (g .places ≤ length (now table)) × (Fronted (now dead) 0 (g .shape .n) (now table)) ⌝ }
     requires { ⌜ (length (now received) ≡ (length (now dead) - 1) * messageSize (g .shape) (now dead)) × (length (now symbols) ≡ size (g .shape)) ⌝ }
     ensures { λ r. ⌜ Begun narrow (g .shape) (now (dead .entry)) v (now (received .entry)) (now (symbols .entry)) (now (symbols .exit)) r ⌝ }
 {
@@ -261,6 +260,17 @@ fn begin(
     let turning = batch * (class - 1);
     cross_from(g, dead, v, turning, 0, table, received, symbols);
     turning
+}
+
+// The members of class c go to a table that has those of class `held`.
+fn relist(g: Layout, dead: &[usize], held: usize, c: usize, table: &mut [u16])
+    requires { ⌜ (Ready (now dead) g) × (g .places ≤ length (now table)) × (Fronted (now dead) held (g .shape .n) (now table)) ⌝ }
+    ensures { λ _. ⌜ Fronted (now (dead .entry)) c (g .shape .n) (now (table .exit)) ⌝ }
+{
+    if held == c {
+        return;
+    }
+    list_members(g, dead, c, table);
 }
 
 // The second step of rank v in place. A rank's own class of layer 0 is there before the rank comes: it was filled by a lower one.
@@ -276,11 +286,16 @@ fn recover_with(
     requires { ⌜ (length (now received) ≡ (length (now dead) - 1) * messageSize (g .shape) (now dead)) × (length (now symbols) ≡ size (g .shape)) ⌝ }
     ensures { λ _. ⌜ Recovers narrow (g .shape) (now (dead .entry)) v (now (received .entry)) (now (symbols .entry)) (now (symbols .exit)) ⌝ }
 {
+    list_members(g, dead, 0, table);
     let turning = begin(g, dead, v, table, received, symbols);
+    let mut held = 0;
     for u in 0..dead.len() {
         if (u == v) | (u == turning) {
             continue;
         }
+        let class = rank_class(g, dead, u);
+        relist(g, dead, held, class, table);
+        held = class;
         cross_from(g, dead, v, u, 1, table, received, symbols);
     }
 }

@@ -30,18 +30,18 @@ mul-turning c =
 
 cross-from-requires : tie.Need-cross-from-requires
 cross-from-requires c κs =
-    let st = c .before .before .before .before .before .before .before .before in
+    let st = c .before .before .before .before .before .before .before in
     let p = st .pre .0 in
-    let t = turned (c .before .before) in
-    let z = c .before .before .if1 .left in (
-      (p .0, p .1, rw (t .0) (t .1 .below), λ e. z (c .before .before .before .rank-class .ensures ∙ ap (rankClass (st .args .dead .now)) (sym e ∙ t .0) ∙ t .1 .class), omega arith, p .2),
+    let t = turned (c .before) in
+    let z = c .before .if1 .left in (
+      (p .0, p .1, rw (t .0) (t .1 .below), λ e. z (c .before .before .rank-class .ensures ∙ ap (rankClass (st .args .dead .now)) (sym e ∙ t .0) ∙ t .1 .class), omega arith, p .2, rw (t .0, t .1 .class) (p .3)),
       st .pre .1,
     )
 
 returns-2 : tie.Need-returns-2
 returns-2 c =
-    let t = turned (c .before .before .before .before .before .before .before) in
-    record { own = λ z. absurd (c .before .before .before .before .before .before .before .if1 .left (c .before .before .before .before .before .before .before .before .rank-class .ensures ∙ z)); turned = λ d. (t .0, rw (t .0) at (c .before .before .before .before .cross-from .ensures)) }
+    let t = turned (c .before .before .before .before) in
+    record { own = λ z. absurd (c .before .before .before .before .if1 .left (c .before .before .before .before .before .rank-class .ensures ∙ z)); turned = λ d. (t .0, rw (t .0) at (c .before .before .cross-from .ensures)) }
 
 pub begin-spec : {M : Type 1} → statement M
 begin-spec =
@@ -52,6 +52,5 @@ begin-spec =
     (λ c. search needs)
     mul-turning
     cross-from-requires
-    (λ c. search needs)
     (λ c. search needs)
     returns-2)

@@ -1,5 +1,5 @@
 -- `steps::cross` meets its contract. Assumes nothing.
-use mathlib.Core.Path.{_≡_, sym, ap, _∙_}
+use mathlib.Core.Path.{_≡_, refl, sym, ap, _∙_}
 use Prim.Native.Nat.{_+_, _-_, _*_, _≤_, _<_}
 use native.Mathlib.Nat.{mul-le-mul}
 use native.Mathlib.Omega.{arith}
@@ -22,23 +22,23 @@ abbrev μ-loop : tie.MeasureT-loop
 μ-loop dead u which table sums symbols₀ count turn near far block batches b₀ symbols b = batches - b
 
 -- the rank's table
-known : (c : tie.At-loop Inv-loop μ-loop) → let a = c .before .before .before .before .before .before .before .before .before .before .before .before .before .args in Tabled (a .dead .now) (a .g) (a .u) (c .before .before .before .before .before .before .list-members .last .1 .1 .1 .0) (c .before .before .before .class-size .result) (c .before .before .turn-of .result)
+known : (c : tie.At-loop Inv-loop μ-loop) → let a = c .before .before .before .before .before .before .before .before .args in Tabled (a .dead .now) (a .g) (a .u) (c .before .before .before .before .before .before .before .before .args .table .now) (c .before .before .before .class-size .result) (c .before .before .turn-of .result)
 known c =
-    let t = c .before .before .before .before .before .before .list-members in
-    tabled (c .before .before .before .before .before .before .before .before .before .before .before .before .before .pre .0) _ _ _ _ _ (c .before .before .before .before .before .before .before .before .rank-class .ensures) (t .ensures) (rw (t .kept .1 .1 .1 .0) (c .before .before .before .before .before .before .before .before .before .before .before .before .before .pre .2)) (c .before .before .before .class-size .ensures) (c .before .before .turn-of .ensures)
+    let st = c .before .before .before .before .before .before .before .before in
+    tabled (st .pre .0) (st .args .u) _ _ _ (st .args .table .now) refl (st .pre .3) (st .pre .2) (c .before .before .before .class-size .ensures) (c .before .before .turn-of .ensures)
 
 -- the batch's parts are within their buffers
-part : (c : tie.In-loop Inv-loop μ-loop) → let a = c .before .before .before .before .before .before .before .before .before .before .before .before .before .before .args in Room (a .dead .now) (a .g) (c .before .loop .b) (c .before .before .before .before .class-size .result)
-part c = let st = c .before .before .before .before .before .before .before .before .before .before .before .before .before .before in room (st .pre .0) _ (st .pre .1) _ _ _ (known (c .before)) (c .before .loop .b) (omega arith)
+part : (c : tie.In-loop Inv-loop μ-loop) → let a = c .before .before .before .before .before .before .before .before .before .args in Room (a .dead .now) (a .g) (c .before .loop .b) (c .before .before .before .before .class-size .result)
+part c = let st = c .before .before .before .before .before .before .before .before .before in room (st .pre .0) _ (st .pre .1) _ _ _ (known (c .before)) (c .before .loop .b) (omega arith)
 
 mul-near : tie.Need-mul-near Inv-loop μ-loop
-mul-near c = let st = c .before .before .before .before .before .before .before .before .before .before .before in omega (arith, turn-high (st .pre .0) (st .args .u) (c .turn-of .result) (1 - st .args .which) (st .pre .1) (c .turn-of .ensures) (omega arith))
+mul-near c = let st = c .before .before .before .before .before .before in omega (arith, turn-high (st .pre .0) (st .args .u) (c .turn-of .result) (1 - st .args .which) (st .pre .1) (c .turn-of .ensures) (omega arith))
 
 mul-far : tie.Need-mul-far Inv-loop μ-loop
-mul-far c = let st = c .before .before .before .before .before .before .before .before .before .before .before in omega (arith, turn-high (st .pre .0) (st .args .u) (c .turn-of .result) (st .args .which) (st .pre .1) (c .turn-of .ensures) (st .pre .3))
+mul-far c = let st = c .before .before .before .before .before .before in omega (arith, turn-high (st .pre .0) (st .args .u) (c .turn-of .result) (st .args .which) (st .pre .1) (c .turn-of .ensures) (st .pre .4))
 
 mul-block : tie.Need-mul-block Inv-loop μ-loop
-mul-block c = let b = bounded (c .before .before .before .before .before .before .before .before .before .before .before .before .pre .0) in omega (arith, mul-le-mul {n₂ = 12} {m₂ = 4096} (b .batch-high) (b .places-high))
+mul-block c = let b = bounded (c .before .before .before .before .before .before .before .pre .0) in omega (arith, mul-le-mul {n₂ = 12} {m₂ = 4096} (b .batch-high) (b .places-high))
 
 loop-holds : tie.Need-loop-holds Inv-loop μ-loop
 loop-holds c = (search needs, pieces-none _ _ _ _)
@@ -55,9 +55,6 @@ mul-from c = omega (arith, part c)
 add-to : tie.Need-add-to Inv-loop μ-loop
 add-to c = omega (arith, part c)
 
-slice-reshare-prefix-cross-batch : tie.Need-slice-reshare-prefix-cross-batch Inv-loop μ-loop
-slice-reshare-prefix-cross-batch c = known (c .before) .few
-
 slice-aggregate-cross-batch : tie.Need-slice-aggregate-cross-batch Inv-loop μ-loop
 slice-aggregate-cross-batch c = let k = known (c .before .before) in k .count-is ∙ ap length (sym (k .front))
 
@@ -65,63 +62,60 @@ mul-cross-batch : tie.Need-mul-cross-batch Inv-loop μ-loop
 mul-cross-batch c = omega (arith, part (c .before))
 
 part-cross-batch-end : tie.Need-part-cross-batch-end Inv-loop μ-loop
-part-cross-batch-end c = omega (arith, part (c .before), c .before .before .before .before .before .before .before .before .before .before .before .before .before .before .before .pre .4)
+part-cross-batch-end c = omega (arith, part (c .before), c .before .before .before .before .before .before .before .before .before .before .pre .5)
 
 mul-cross-batch-2 : tie.Need-mul-cross-batch-2 Inv-loop μ-loop
 mul-cross-batch-2 c = omega (arith, part (c .before .before))
 
 part-cross-batch-end-2 : tie.Need-part-cross-batch-end-2 Inv-loop μ-loop
-part-cross-batch-end-2 c = let r = part (c .before .before) in omega (arith, r .block, c .before .before .before .before .before .before .before .before .before .before .before .before .before .before .before .before .pre .5, c .before .before .before .loop .inv .1 .long)
+part-cross-batch-end-2 c = let r = part (c .before .before) in omega (arith, r .block, c .before .before .before .before .before .before .before .before .before .before .before .pre .6, c .before .before .before .loop .inv .1 .long)
 
 cross-batch-requires : tie.Need-cross-batch-requires Inv-loop μ-loop
 cross-batch-requires c κs =
     let i = c .before .before .before in
-    let st = i .before .before .before .before .before .before .before .before .before .before .before .before .before .before in
+    let st = i .before .before .before .before .before .before .before .before .before in
     let l = i .before .loop in
     let k = known (i .before) in
     let block = st .args .g .batch * st .args .g .places in
     let count = i .before .before .before .before .class-size .result in
-    let members = take count (i .before .before .before .before .before .before .before .list-members .last .1 .1 .1 .0) in
+    let members = take count (i .before .before .before .before .before .before .before .before .before .args .table .now) in
     let turn = i .before .before .before .turn-of .result in
     let r = part i in
     let n : length members ≡ count = ap length (k .front) ∙ sym (k .count-is) in
-    let long : length (take (l .b * block + block - l .b * block) (drop (l .b * block) (l .symbols))) ≡ block = simp (length-take, length-drop) (omega (arith, r .block, st .pre .5, l .inv .1 .long)) in
+    let long : length (take (l .b * block + block - l .b * block) (drop (l .b * block) (l .symbols))) ≡ block = simp (length-take, length-drop) (omega (arith, r .block, st .pre .6, l .inv .1 .long)) in
     let h : l .b < st .args .g .batches = omega arith in
-    (rw long (apart-by (st .pre .0) _ (st .pre .1) _ _ _ k (l .b) h (st .args .which) (st .pre .3)), rw n (simp (length-take, length-drop) (omega (arith, r .sums, st .pre .4))))
+    (rw long (apart-by (st .pre .0) _ (st .pre .1) _ _ _ k (l .b) h (st .args .which) (st .pre .4)), rw n (simp (length-take, length-drop) (omega (arith, r .sums, st .pre .5))))
 
 loop-again : tie.Need-loop-again Inv-loop μ-loop
 loop-again c =
     let i = c .before .before .before .before .before .before in
-    let st = i .before .before .before .before .before .before .before .before .before .before .before .before .before .before in
+    let st = i .before .before .before .before .before .before .before .before .before in
     let l = i .before .loop in
     let k = known (i .before) in
     let block = st .args .g .batch * st .args .g .places in
     let count = i .before .before .before .before .class-size .result in
-    let members = take count (i .before .before .before .before .before .before .before .list-members .last .1 .1 .1 .0) in
+    let members = take count (i .before .before .before .before .before .before .before .before .before .args .table .now) in
     let turn = i .before .before .before .turn-of .result in
     let r = part i in
     let n : length members ≡ count = ap length (k .front) ∙ sym (k .count-is) in
-    let long : length (take (l .b * block + block - l .b * block) (drop (l .b * block) (l .symbols))) ≡ block = simp (length-take, length-drop) (omega (arith, r .block, st .pre .5, l .inv .1 .long)) in
+    let long : length (take (l .b * block + block - l .b * block) (drop (l .b * block) (l .symbols))) ≡ block = simp (length-take, length-drop) (omega (arith, r .block, st .pre .6, l .inv .1 .long)) in
     let m = c .before .before .cross-batch in
     let e : take (l .b * count + count - l .b * count) (drop (l .b * count) (st .args .sums .now)) ≡ piece (length members) (l .b) (st .args .sums .now) =
     piece-part count (l .b) (st .args .sums .now) ∙ ap (λ z. piece z (l .b) (st .args .sums .now)) (sym n) in (
       search needs,
       pieces-more (st .args .g .batches) block (BatchCrossed narrow members (turn * (1 - st .args .which)) (turn * st .args .which) (st .args .sums .now)) (st .args .symbols .now) (l .b) (l .symbols) _
-          (st .pre .5 ∙ sym (blocks-are (st .pre .0) _ (st .pre .1) _ _ _ k)) (omega arith) (l .inv .1) (rw (e, piece-part block (l .b) (l .symbols)) at (m .ensures)) (m .kept .1 .1 .1 .1 .0 ∙ long),
+          (st .pre .6 ∙ sym (blocks-are (st .pre .0) _ (st .pre .1) _ _ _ k)) (omega arith) (l .inv .1) (rw (e, piece-part block (l .b) (l .symbols)) at (m .ensures)) (m .kept .1 .1 .1 .1 .0 ∙ long),
     )
 
 same-length : tie.Need-same-length Inv-loop μ-loop
-same-length c = c .before .before .before .before .before .before .before .list-members .kept .1 .1 .1 .0
-
-same-length-2 : tie.Need-same-length-2 Inv-loop μ-loop
-same-length-2 c = c .before .loop .inv .1 .long
+same-length c = c .before .loop .inv .1 .long
 
 returns : tie.Need-returns Inv-loop μ-loop
 returns c =
-    let st = c .before .before .before .before .before .before .before .before .before .before .before .before .before .before in
+    let st = c .before .before .before .before .before .before .before .before .before in
     let l = c .before .loop in
     let e : l .b ≡ st .args .g .batches = omega arith in
-    crossed-done (st .pre .0) _ (st .pre .1) _ _ _ (known (c .before)) narrow _ (st .pre .3) _ (st .args .symbols .now) (l .symbols) (st .pre .5) (rw e at (l .inv .1))
+    crossed-done (st .pre .0) _ (st .pre .1) _ _ _ (known (c .before)) narrow _ (st .pre .4) _ (st .args .symbols .now) (l .symbols) (st .pre .6) (rw e at (l .inv .1))
 
 pub cross-spec : {M : Type 1} → statement M
 cross-spec =
@@ -129,8 +123,6 @@ cross-spec =
     (tie.spec
     Inv-loop
     μ-loop
-    (λ c κs. search needs)
-    (λ c κs. search needs)
     (λ c κs. search needs)
     (λ c κs. search needs)
     (λ c. search needs)
@@ -142,7 +134,6 @@ cross-spec =
     add-end
     mul-from
     add-to
-    slice-reshare-prefix-cross-batch
     slice-aggregate-cross-batch
     mul-cross-batch
     (λ c. search needs)
@@ -157,5 +148,4 @@ cross-spec =
     (λ c. search needs)
     loop-again
     same-length
-    same-length-2
     returns)

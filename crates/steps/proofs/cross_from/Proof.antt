@@ -35,30 +35,30 @@ add-end : tie.Need-add-end
 add-end c = omega (arith, within c .0)
 
 mul-cross : tie.Need-mul-cross
-mul-cross c = omega (arith, within (c .before) .0)
+mul-cross c = omega (arith, within c .0)
 
 part-cross-end : tie.Need-part-cross-end
-part-cross-end c = within (c .before) .0
+part-cross-end c = within c .0
 
 cross-requires : tie.Need-cross-requires
 cross-requires c κs =
-    let st = c .before .before .before .before .before .before .before .before in
+    let st = c .before .before .before .before .before .before .before in
     let p = st .pre .0 in
-    let w = within (c .before .before .before) in
-    (p .0, p .2, p .5, p .4, simp (length-take, length-drop) (omega (arith, w .0, w .1)), st .pre .1 .1)
+    let w = within (c .before .before) in
+    (p .0, p .2, p .5, p .6, p .4, simp (length-take, length-drop) (omega (arith, w .0, w .1)), st .pre .1 .1)
 
 returns : tie.Need-returns
 unfolding sentBy
 returns c =
-    let st = c .before .before .before .before .before .before .before .before .before .before .before .before .before in
+    let st = c .before .before .before .before .before .before .before .before .before .before in
     let a = st .args in
-    let w = within (c .before .before .before .before .before .before .before .before) in
-    let at = c .before .before .before .before .before .before .before .before .among .result * a .g .share in
+    let w = within (c .before .before .before .before .before) in
+    let at = c .before .before .before .before .before .among .result * a .g .share in
     crossed-sums narrow (ready-dead (st .pre .0 .0)) (a .u) (a .which) _ _ (a .symbols .now) _
     (λ x h. ap (λ z. getD z x 0) (part-of at (a .g .share) (a .received .now))
     ∙ getD-take (a .g .share) (drop at (a .received .now)) x 0 (rw (w .1) h) ∙ getD-drop at (a .received .now) x 0
-    ∙ ap₂ (λ y z. getD (a .received .now) (y * z + x) 0) (c .before .before .before .before .before .before .before .before .among .ensures) (w .1))
-    (c .before .before .before .before .cross .ensures)
+    ∙ ap₂ (λ y z. getD (a .received .now) (y * z + x) 0) (c .before .before .before .before .before .among .ensures) (w .1))
+    (c .before .before .cross .ensures)
 
 pub cross-from-spec : {M : Type 1} → statement M
 cross-from-spec =
@@ -72,6 +72,5 @@ cross-from-spec =
     (λ c. search needs)
     part-cross-end
     cross-requires
-    (λ c. search needs)
     (λ c. search needs)
     returns)
