@@ -10,13 +10,10 @@ use lib.ListN.{length, getD, set, take, length-append, length-set}
 use lib.Seq.{take-suc-set, take-set-le, getD-take}
 use Rattle.lists.proofs.Picked.{picked-none, picked-yes, picked-no}
 use Rattle.shape.specs.declared.Shape.{Shape}
-use Rattle.shape.specs.Shape.{mostNodes}
-use Rattle.classes.specs.declared.Layout.{Layout}
-use Rattle.classes.specs.Classes.{batch, top, classOf, rankClass, Sum, spot, spotAt, inClass, members, sumAt, messageSize}
-use Rattle.classes.specs.Layout.{Ready, Listed}
+use Rattle.classes.specs.Classes.{batch, top, classOf, rankClass, Sum, spot, spotAt, inClass, members, sumAt}
+use Rattle.classes.specs.Layout.{Fronted}
 use Rattle.classes.proofs.Dead.{Dead}
-use Rattle.classes.proofs.Ranks.{rankClass-le}
-use Rattle.classes.proofs.Counts.{members-size, message-is}
+use Rattle.classes.proofs.Counts.{members-size}
 use Rattle.classes.proofs.Sums.{member-found, member-at, sumAt-is}
 use Rattle.classes.proofs.Passes.{spot-number}
 
@@ -43,20 +40,20 @@ module _ (dead : List ℕ) (c : ℕ) where
       go ih false e = omega (arith, ap length (members-no a e))
 
   -- a table whose first x elements are the members below a
-  pub record Listing (a x : ℕ) (out : List ℕ) : Type 0 where
-    pub long : length out ≡ 2 ^ mostNodes
+  pub record Listing (room a x : ℕ) (out : List ℕ) : Type 0 where
+    pub long : length out ≡ room
     pub count : x ≡ length (members dead c a)
     pub front : take x out ≡ members dead c a
 
-  pub listing-none : (out : List ℕ) → length out ≡ 2 ^ mostNodes → Listing 0 0 out
+  pub listing-none : (out : List ℕ) → Listing (length out) 0 0 out
   unfolding members
-  listing-none out e = record { long = e; count = sym members-none; front = sym (picked-none (inClass dead c)) }
+  listing-none out = record { long = refl; count = sym members-none; front = sym (picked-none (inClass dead c)) }
 
   -- a is written behind them, and counted where it is of the class
-  pub listing-more : (a x y : ℕ) (out : List ℕ) → Listing a x out → x < length out → y ≡ cond (inClass dead c a) 1 0 → Listing (a + 1) (x + y) (set out x a)
-  listing-more a x y out L h e = rw add-one (go (inClass dead c a) refl)
+  pub listing-more : (room a x y : ℕ) (out : List ℕ) → Listing room a x out → x < length out → y ≡ cond (inClass dead c a) 1 0 → Listing room (a + 1) (x + y) (set out x a)
+  listing-more room a x y out L h e = rw add-one (go (inClass dead c a) refl)
     where
-      go : (t : Bool) → inClass dead c a ≡ t → Listing (suc a) (x + y) (set out x a)
+      go : (t : Bool) → inClass dead c a ≡ t → Listing room (suc a) (x + y) (set out x a)
       go true d =
           let z : x + y ≡ suc x = omega (arith, e ∙ ap (λ (t : Bool). cond t 1 0) d) in
           record {
@@ -72,9 +69,8 @@ module _ (dead : List ℕ) (c : ℕ) where
             front = rw z (take-set-le x out x a (omega arith) ∙ L .front ∙ sym (members-no a d));
           }
 
-  pub listing-end : (n x : ℕ) (out : List ℕ) → Listing (2 ^ n) x out → Listed dead c n out
-  listing-end n x out L = record {
-    long = L .long;
+  pub listing-end : (room n x : ℕ) (out : List ℕ) → Listing room (2 ^ n) x out → Fronted dead c n out
+  listing-end room n x out L = record {
     each = λ y h. sym (getD-take x out y 0 (omega (arith, L .count))) ∙ ap (λ l. getD l y 0) (L .front);
   }
 

@@ -18,7 +18,7 @@ use Rattle.shape.specs.declared.Shape.{Shape}
 use Rattle.code.specs.Code.{Code}
 use Rattle.classes.specs.declared.Layout.{Layout}
 use Rattle.classes.specs.Classes.{batch, top, node, classOf, rankClass, Sum, spot, noSpot, inClass, members, spots, spotAt, sumAt, placeOf, partner, sumPlace, placeAt, messageSize}
-use Rattle.classes.specs.Steps.{added, addedAt, helperMessage}
+use Rattle.classes.specs.Steps.{added, helperMessage}
 use Rattle.classes.specs.Layout.{Ready}
 use Rattle.classes.proofs.Sizes.{batch-pos}
 use Rattle.classes.proofs.Ranks.{partner-lt}
@@ -98,11 +98,6 @@ unfolding helperMessage messageAt spotAt
 message-table c {s} {dead} D u symbols =
     is-tabulate (helperMessage c s dead u symbols) (messageSize s dead) (messageAt c s dead u symbols) 0 (message-length D c u symbols)
     (λ x h. map-at (added c symbols) (spots s dead u) x noSpot 0 (rw (spots-size D u) h))
-
-pub message-here : (c : Code) (s : Shape) (dead : List ℕ) (u e x : ℕ) (symbols : List ℕ) → Here s dead u e x
-    → addedAt c s dead u symbols e ≡ messageAt c s dead u symbols x
-unfolding messageAt addedAt added placeAt sumPlace spot
-message-here c s dead u e x symbols H = sym (ap (added c symbols) (spot-number s dead u _ _ x (H .sum) (H .number)))
 
 -- both places of a sum are a node's
 pub place-below : {dead : List ℕ} {g : Layout} → Ready dead g → (u which e : ℕ) → u < length dead → e < g .batches * g .places → placeAt (g .shape) dead u which e < size (g .shape)

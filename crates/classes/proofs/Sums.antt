@@ -17,7 +17,7 @@ use Rattle.classes.proofs.Ranks.{rankClass-le}
 use Rattle.classes.proofs.Counts.{spotsOf-length, message-is}
 
 module _ (dead : List ℕ) (c : ℕ) where
-  member-lt : (n a : ℕ) → a < n → classOf dead a ≡ c → length (members dead c a) < length (members dead c n)
+  pub member-lt : (n a : ℕ) → a < n → classOf dead a ≡ c → length (members dead c a) < length (members dead c n)
   unfolding members inClass
   member-lt n a h e = picked-lt (inClass dead c) n a h (eq-eqb (classOf dead a) c e)
 

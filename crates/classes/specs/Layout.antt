@@ -24,6 +24,10 @@ pub record Ready (dead : List ℕ) (g : Layout) : Type 0 where
   pub share-is : g .share ≡ messageSize (g .shape) dead
 
 -- the first elements of a table are the a of class c below 2^n, rising
+pub record Fronted (dead : List ℕ) (c n : ℕ) (out : List ℕ) : Type 0 where
+  pub each : (x : ℕ) → x < length (members dead c (2 ^ n)) → getD out x 0 ≡ getD (members dead c (2 ^ n)) x 0
+
+-- the same of a table with room for any class
 pub record Listed (dead : List ℕ) (c n : ℕ) (out : List ℕ) : Type 0 where
   pub long : length out ≡ 2 ^ mostNodes
   pub each : (x : ℕ) → x < length (members dead c (2 ^ n)) → getD out x 0 ≡ getD (members dead c (2 ^ n)) x 0

@@ -11,15 +11,11 @@ use Rattle.column.specs.Column.{completed}
 use Rattle.shape.specs.declared.Shape.{Shape}
 use Rattle.shape.specs.Shape.{size}
 use Rattle.code.specs.Code.{Code, morePoints}
-use Rattle.classes.specs.Classes.{batch, node, classOf, rankClass, turningRank, rankAt, Spot, spots, spotAt, sumAt, placeAt, messageSize}
+use Rattle.classes.specs.Classes.{batch, node, classOf, rankClass, turningRank, rankAt, Spot, spots, spotAt, sumAt, messageSize}
 
 -- the sum of a node's two symbols at a spot
 unfoldable pub added : Code → List ℕ → Spot → ℕ
 added c symbols p = (getD symbols (p .one) 0 + getD symbols (p .other) 0) % c .modulus
-
--- the sum that rank u has at e, which counts the places of all batches' layers 0
-unfoldable pub addedAt : Code → Shape → List ℕ → ℕ → List ℕ → ℕ → ℕ
-addedAt c s dead u symbols e = (getD symbols (placeAt s dead u 0 e) 0 + getD symbols (placeAt s dead u 1 e) 0) % c .modulus
 
 -- the message to rank u of a helper with these N symbols
 unfoldable pub helperMessage : Code → Shape → List ℕ → ℕ → List ℕ → List ℕ

@@ -14,7 +14,7 @@ ghost use Rattle.shape.specs.Shape.{mostNodes, size};
 ghost use Rattle.shape.specs.Refusals.{shapeBad};
 ghost use Rattle.classes.specs.Classes.{batch, top, classOf, rankClass, inClass, members};
 ghost use Rattle.classes.specs.Steps.{place};
-ghost use Rattle.classes.specs.Layout.{Ready, Listed};
+ghost use Rattle.classes.specs.Layout.{Ready, Fronted, Listed};
 ghost use Rattle.lists.specs.Lists.{member, position, rising};
 
 // The most members of a class, those of a layer.
@@ -132,18 +132,26 @@ pub fn class_size(g: Layout, dead: &[usize]) -> usize
     g.places / (g.top + 1)
 }
 
-// The a of class c, rising. What is written at x is written over where its a is not of the class.
-pub fn members_of(g: Layout, dead: &[usize], c: usize) -> [u16; MEMBERS]
-    requires { ⌜ Ready (now dead) g ⌝ }
-    ensures { λ out. ⌜ Listed (now (dead .entry)) c (g .shape .n) out ⌝ }
+// The a of class c, rising, in the front of a table. What is written at x is written over where its a is not of the class.
+pub fn list_members(g: Layout, dead: &[usize], c: usize, out: &mut [u16])
+    requires { ⌜ (Ready (now dead) g) × (g .places ≤ length (now out)) ⌝ }
+    ensures { λ _. ⌜ Fronted (now (dead .entry)) c (g .shape .n) (now (out .exit)) ⌝ }
 {
     let places = g.places;
-    let mut out = [0u16; MEMBERS];
     let mut x = 0;
     for a in 0..places {
         out[x] = a as u16;
         x += (class_of(g, dead, a) == c) as usize;
     }
+}
+
+// The a of class c, rising.
+pub fn members_of(g: Layout, dead: &[usize], c: usize) -> [u16; MEMBERS]
+    requires { ⌜ Ready (now dead) g ⌝ }
+    ensures { λ out. ⌜ Listed (now (dead .entry)) c (g .shape .n) out ⌝ }
+{
+    let mut out = [0u16; MEMBERS];
+    list_members(g, dead, c, &mut out);
     out
 }
 

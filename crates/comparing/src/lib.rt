@@ -4,7 +4,7 @@ use filling::run_of;
 use filling::sum_row;
 use patterns::pays;
 use patterns::represent;
-use patterns::run_multipliers;
+use picking::run_multipliers;
 use rows::RUN;
 use shape::MODULUS;
 use shape::Shape;

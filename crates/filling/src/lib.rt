@@ -2,7 +2,7 @@
 // symbols at its place, each times a multiplier that serves all layers.
 use patterns::pays;
 use patterns::represent;
-use patterns::run_multipliers;
+use picking::run_multipliers;
 use rows::RUN;
 use rows::add_products;
 use rows::store;

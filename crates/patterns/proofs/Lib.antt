@@ -1,3 +1,2 @@
--- Laws of patterns, and of what is picked by them.
+-- Laws of patterns.
 pub mod Patterns
-pub mod Picking

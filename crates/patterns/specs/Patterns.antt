@@ -2,14 +2,11 @@
 use mathlib.Core.Path.{_≡_}
 use mathlib.Core.Bool.{Bool, true, false, cond}
 use mathlib.Core.List.{List}
-use Prim.Native.Nat.{ℕ, zero, suc, _+_, _-_, _*_, _^_, _<_, _≤_}
+use Prim.Native.Nat.{ℕ, zero, suc, _+_, _*_, _^_, _<_, _≤_}
 use lib.ListN.{getD}
-use lib.Dec.{eqb}
-use Rattle.lists.specs.Lists.{rising}
 use Rattle.lists.specs.Digits.{bit}
-use Rattle.shape.specs.Shape.{mostNodes}
 use Rattle.rows.specs.Rows.{mostPlaces}
-use Rattle.tables.specs.Tables.{Marks, TableOf}
+use Rattle.tables.specs.Tables.{TableOf}
 
 -- the bits of a at the nodes below m that are not marked, one behind the other
 unfoldable pub pattern : List Bool → ℕ → ℕ → ℕ
@@ -43,22 +40,3 @@ pub record Represented (n : ℕ) (marked : List Bool) (list : List ℕ) (m : ℕ
   pub each : ℕ → ℕ
   pub stands : (p : ℕ) → p < patterns marked n → Stands n marked p (each p)
   pub held : TableOf n each (patterns marked n) list m table
-
--- of the patterns up to `last`, the one to look under: the opposite one where a bit is 1
-unfoldable pub lookedUp : ℕ → ℕ → ℕ → ℕ
-lookedUp b p last = cond (eqb b 0) p (last - p)
-
--- the element that a row of a table has for a place's pattern and the bit of a node
-unfoldable pub picked : ℕ → ℕ → List ℕ → ℕ → List ℕ → ℕ → ℕ → ℕ
-picked a node picks last source at t = getD source (at + lookedUp (bit node (a + t)) (getD picks t 0) last) 0
-
--- the patterns of a run of places, and the table to pick from
-pub record Pickable (n m a run : ℕ) (list : List ℕ) (marked : List Bool) (picks : List ℕ) (last : ℕ) (source : List ℕ) : Type 0 where
-  pub high : n ≤ mostNodes
-  pub inside : m ≤ n
-  pub low : a + run ≤ 2 ^ n
-  pub up : rising 0 n list ≡ true
-  pub marks : Marks n list marked
-  pub picks-are : (t : ℕ) → t < run → getD picks t 0 ≡ pattern marked (a + t) n
-  pub last-is : last + 1 ≡ patterns marked n
-  pub held : Represented n marked list m source

@@ -1,4 +1,7 @@
--- Laws of what a new node stores and gets from the others, lowest first.
+-- Laws of parts of buffers, of what a new node stores and gets from the others, lowest first.
+pub mod Parts
+pub mod Batch
 pub mod Storing
+pub mod Turned
 pub mod Providers
 pub mod Recovery

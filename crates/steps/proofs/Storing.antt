@@ -146,12 +146,6 @@ symbol-is s dead u which b a symbols = refl
 pub record Pairing (s : Shape) (dead : List ℕ) (u : ℕ) (f : ℕ → ℕ → ℕ) (e : ℕ) (now : List ℕ) : Type 0 where
   pub each : (which b a : ℕ) → which < 2 → Sum s dead u b a → b * 2 ^ s .n + a < e → getD now (sumPlace s dead u which b a) 0 ≡ f (sumAt s dead u b a) which
 
--- the places `which` of the sums below e are stored at
-pub record Crossing (s : Shape) (dead : List ℕ) (u which : ℕ) (value : ℕ → ℕ → ℕ) (e : ℕ) (old now : List ℕ) : Type 0 where
-  pub long : length now ≡ length old
-  pub each : (b a : ℕ) → Sum s dead u b a → b * 2 ^ s .n + a < e → getD now (sumPlace s dead u which b a) 0 ≡ value b a
-  pub rest : (x : ℕ) → ((b a : ℕ) → Sum s dead u b a → b * 2 ^ s .n + a < e → sumPlace s dead u which b a ≢ x) → getD now x 0 ≡ getD old x 0
-
 module _ {s : Shape} {dead : List ℕ} (D : Dead s dead) (u : ℕ) (l : u < length dead) where
   abbrev P : ℕ
   P = 2 ^ s .n
@@ -217,46 +211,3 @@ module _ {s : Shape} {dead : List ℕ} (D : Dead s dead) (u : ℕ) (l : u < leng
       go which b a k S (inr h) =
           ap₂ (λ y z. getD then (sumPlace s dead u which y z) 0) (h .0) (h .1) ∙ ap (λ y. getD then y 0) (sym (at-place s dead u which e)) ∙ at which k
           ∙ ap (λ y. f y which) (sym (ap₂ (sumAt s dead u) (h .0) (h .1) ∙ H .number))
-
-  module _ (which : ℕ) (k : which < 2) (value : ℕ → ℕ → ℕ) (old : List ℕ) where
-    pub crossing-none : Crossing s dead u which value 0 old old
-    crossing-none = record { long = refl; each = λ b a S h. absurd (omega arith); rest = λ x h. refl }
-
-    module _ (e : ℕ) (now : List ℕ) (A : Crossing s dead u which value e old now) where
-      pub crossing-skip : (classOf dead (e % P) ≡ rankClass dead u → ⊥) → Crossing s dead u which value (e + 1) old now
-      crossing-skip d = record {
-        long = A .long;
-        each = λ b a S h. A .each b a S (passed-by b a e S d h);
-        rest = λ x h. A .rest x (λ b a S m. h b a S (omega arith));
-      }
-
-      module _ (x : ℕ) (H : Here s dead u e x) where
-        -- what stands at the other end of the sum is still what stood there
-        pub crossing-from : getD now (placeAt s dead u (1 - which) e) 0 ≡ getD old (placeAt s dead u (1 - which) e) 0
-        crossing-from =
-            A .rest (placeAt s dead u (1 - which) e)
-            (λ b a S h z. sums-apart D u l _ _ _ _ (H .sum) S which k (sym (at-place s dead u (1 - which) e) ∙ sym z))
-
-        pub crossing-more : (v : ℕ) → placeAt s dead u which e < length old → v ≡ value (e / P) (e % P)
-            → Crossing s dead u which value (e + 1) old (set now (placeAt s dead u which e) v)
-        crossing-more v room q = record { long = length-set now t v ∙ A .long; each = λ b a S h. go b a S (upto P b a e (S .below) h); rest = rest′ }
-          where
-            t : ℕ
-            t = placeAt s dead u which e
-
-            go : (b a : ℕ) → Sum s dead u b a → (b * P + a < e) ⊎ ((b ≡ e / P) × (a ≡ e % P)) → getD (set now t v) (sumPlace s dead u which b a) 0 ≡ value b a
-            go b a S (inl h) =
-                getD-set-other now t (sumPlace s dead u which b a) v 0
-                (λ z. not-before b a e h (sums-own D u l _ _ _ _ S (H .sum) which k (z ∙ at-place s dead u which e)))
-                ∙ A .each b a S h
-            go b a S (inr h) =
-                ap₂ (λ y z. getD (set now t v) (sumPlace s dead u which y z) 0) (h .0) (h .1) ∙ ap (λ y. getD (set now t v) y 0) (sym (at-place s dead u which e))
-                ∙ getD-set-same now t v 0 (rw (A .long) room) ∙ q ∙ sym (ap₂ value (h .0) (h .1))
-
-            here-lt : e / P * P + e % P < e + 1
-            here-lt = omega (arith, div-add-mod' e P)
-
-            rest′ : (x : ℕ) → ((b a : ℕ) → Sum s dead u b a → b * P + a < e + 1 → sumPlace s dead u which b a ≢ x) → getD (set now t v) x 0 ≡ getD old x 0
-            rest′ x h =
-                getD-set-other now t x v 0 (λ z. h (e / P) (e % P) (H .sum) here-lt (sym (z ∙ at-place s dead u which e)))
-                ∙ A .rest x (λ b a S m. h b a S (omega arith))

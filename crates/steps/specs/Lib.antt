@@ -1,2 +1,3 @@
 -- What is promised of a message and of a second step: pairs stored, and ranks crossed.
 pub mod Storing
+pub mod Batch

@@ -1,19 +1,15 @@
-// The two places of each sum of a rank, and the sums.
+// The two places of each sum of a rank.
 use classes::Layout;
 use classes::a_at;
 use classes::batch_at;
-use field::add;
-use shape::MODULUS;
 use shape::two_to;
 ghost use mathlib.Core.Path.{_≡_};
-ghost use Prim.Native.Nat.{_*_, _^_, _<_};
+ghost use Prim.Native.Nat.{_+_, _*_, _^_, _<_};
 ghost use lib.ListN.{length};
 ghost use Rattle.lists.specs.Digits.{flip};
 ghost use Rattle.shape.specs.Shape.{mostNodes, size};
-ghost use Rattle.classes.specs.Classes.{partner, placeOf, placeAt};
-ghost use Rattle.classes.specs.Steps.{addedAt};
+ghost use Rattle.classes.specs.Classes.{node, partner, placeOf, placeAt};
 ghost use Rattle.classes.specs.Layout.{Ready};
-ghost use Rattle.code.specs.Code.{narrow};
 
 // a with bit i flipped.
 fn flipped(i: usize, a: usize) -> usize
@@ -42,6 +38,17 @@ fn partner(g: Layout, dead: &[usize], u: usize) -> usize
     }
 }
 
+// What turns the first place of each sum of rank u into its other one, within a batch: the bit of node i_u, and above the bits of a the
+// partner layer.
+pub fn turn_of(g: Layout, dead: &[usize], u: usize) -> usize
+    requires { ⌜ (Ready (now dead) g) × (u < length (now dead)) ⌝ }
+    ensures { λ r. ⌜ r ≡ partner (now (dead .entry)) u * 2 ^ g .shape .n + 2 ^ node (now (dead .entry)) u ⌝ }
+{
+    let places = g.places;
+    let node = dead[u];
+    partner(g, dead, u) * places + two_to(node)
+}
+
 // The place of layer w of batch b, at a.
 fn place_of(g: Layout, dead: &[usize], w: usize, b: usize, a: usize) -> usize
     requires { ⌜ (Ready (now dead) g) × (w < g .batch) × (b < g .batches) × (a < g .places) ⌝ }
@@ -65,16 +72,6 @@ pub fn place(g: Layout, dead: &[usize], u: usize, which: usize, e: usize) -> usi
         let node = dead[u];
         place_of(g, dead, partner(g, dead, u), b, flipped(node, a))
     }
-}
-
-// "the helper's symbol at (layer 0, a) plus its symbol at (partner layer, a with bit i_u flipped)"
-pub fn sum_at(g: Layout, dead: &[usize], u: usize, e: usize, symbols: &[u16]) -> u16
-    requires { ⌜ (Ready (now dead) g) × (u < length (now dead)) × (e < g .batches * g .places) × (length (now symbols) ≡ size (g .shape)) ⌝ }
-    ensures { λ r. ⌜ r ≡ addedAt narrow (g .shape) (now (dead .entry)) u (now (symbols .entry)) e ⌝ }
-{
-    let one = place(g, dead, u, 0, e);
-    let other = place(g, dead, u, 1, e);
-    add(MODULUS, symbols[one] as u32, symbols[other] as u32) as u16
 }
 
 // How many places all batches' layers 0 have.

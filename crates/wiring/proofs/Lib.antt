@@ -1,5 +1,4 @@
 -- Laws of the wire buffer and of the nodes behind each rank, lowest first.
-pub mod Parts
 pub mod OnWire
 pub mod Passing
 pub mod Ranked

@@ -1,11 +1,13 @@
--- `shape::symbol_bad` meets its contract: all symbols are below q where all that are left are. Assumes nothing.
-use mathlib.Core.Path.{_≡_, sym, ap, _∙_}
-use mathlib.Core.Bool.{not}
-use Prim.Native.Nat.{_≤_, _-_}
+-- `shape::symbol_bad` meets its contract: all symbols are below q where none was not, and all that are left are. Assumes nothing.
+use mathlib.Core.Path.{_≡_, refl, sym, ap, _∙_}
+use mathlib.Core.Bool.{Bool, true, false, not, _&&_, _||_}
+use mathlib.Core.List.{List}
+use Prim.Native.Nat.{ℕ, _+_, _≤_, _<_, _-_}
 use native.Mathlib.Omega.{arith}
 use borrow.Author.Needs.{needs}
-use borrow.Author.Tests.{le-ltb, lt-ltb}
-use lib.ListN.{length, drop}
+use borrow.Author.Tests.{le-ltb, lt-ltb, leb-true, leb-false}
+use lib.Dec.{leb}
+use lib.ListN.{length, getD, drop}
 use Rattle.lists.specs.Lists.{all, below}
 use Rattle.lists.proofs.Scans.{all-pass, all-fail, all-end}
 use Rattle.shape.specs.Refusals.{symbolBad}
@@ -13,31 +15,36 @@ use Rattle.shape.proofs.symbol_bad.Statement.{statement}
 use Rattle.shape.proofs.symbol_bad.Tie as tie
 
 abbrev Inv-loop : tie.InvT-loop
-Inv-loop q symbols i₀ i = (i ≤ length symbols) × (all (below q) symbols ≡ all (below q) (drop i symbols))
+Inv-loop q symbols bad₀ i₀ i-end bad i = (i ≤ i-end) × (all (below q) symbols ≡ (not bad && all (below q) (drop i symbols)))
 
 abbrev μ-loop : tie.MeasureT-loop
-μ-loop q symbols i₀ i = length symbols - i
+μ-loop q symbols bad₀ i₀ i-end bad i = i-end - i
 
-cast-if1 : tie.Need-cast-if1 Inv-loop μ-loop
-cast-if1 c = omega (arith, c .shared-slice-known .given (c .before .before .loop .i))
+step : (q i : ℕ) (s : List ℕ) (bad : Bool) → i < length s → all (below q) s ≡ (not bad && all (below q) (drop i s))
+    → all (below q) s ≡ (not (bad || leb q (getD s i 0)) && all (below q) (drop (i + 1) s))
+unfolding below
+step q i s bad h e = go (leb q (getD s i 0)) refl bad e
+  where
+    go : (t : Bool) → leb q (getD s i 0) ≡ t → (bad : Bool) → all (below q) s ≡ (not bad && all (below q) (drop i s)) → all (below q) s ≡ (not (bad || leb q (getD s i 0)) && all (below q) (drop (i + 1) s))
+    go t k true e = e
+    go true k false e =
+        e ∙ all-fail (below q) s i h (le-ltb _ q (leb-true _ _ k)) ∙ sym (ap (λ z. not z && all (below q) (drop (i + 1) s)) k)
+    go false k false e =
+        e ∙ all-pass (below q) s i h (lt-ltb _ q (leb-false _ _ k)) ∙ sym (ap (λ z. not z && all (below q) (drop (i + 1) s)) k)
 
-returns : tie.Need-returns Inv-loop μ-loop
-unfolding symbolBad below
-returns c =
-    let l = c .before .before .before in
-    let a = l .before .args in
-    sym (ap not (l .loop .inv .1 ∙ all-fail (below (a .q)) (a .symbols .now) (l .loop .i) (omega arith) (le-ltb _ (a .q) (omega arith))))
+returned : (bad x : Bool) → x ≡ (not bad && true) → bad ≡ not x
+returned true x e = rw e
+returned false x e = rw e
+
+cast-bad : tie.Need-cast-bad Inv-loop μ-loop
+cast-bad c = omega (arith, c .shared-slice-known .given (c .before .before .loop .i))
 
 loop-again : tie.Need-loop-again Inv-loop μ-loop
-unfolding below
-loop-again c =
-    let l = c .before .before .before in
-    let a = l .before .args in
-    (omega arith, l .loop .inv .1 ∙ all-pass (below (a .q)) (a .symbols .now) (l .loop .i) (omega arith) (lt-ltb _ (a .q) (omega arith)))
+loop-again c = let l = c .before .before .loop in (search needs, step _ (l .i) _ (l .bad) (omega arith) (l .inv .1))
 
-returns-2 : tie.Need-returns-2 Inv-loop μ-loop
+returns : tie.Need-returns Inv-loop μ-loop
 unfolding symbolBad
-returns-2 c = sym (ap not (c .before .loop .inv .1 ∙ all-end _ _ _ (c .loop-test .left)))
+returns c = returned _ _ (c .before .loop .inv .1 ∙ ap (λ z. not (c .before .loop .bad) && z) (all-end _ _ (c .before .loop .i) (omega arith)))
 
 pub symbol-bad-spec : {M : Type 1} → statement M
 symbol-bad-spec =
@@ -48,9 +55,8 @@ symbol-bad-spec =
     (λ c. search needs)
     (λ c. search needs)
     (λ c. search needs)
-    cast-if1
-    returns
+    cast-bad
     (λ c. search needs)
     (λ c. search needs)
     loop-again
-    returns-2)
+    returns)

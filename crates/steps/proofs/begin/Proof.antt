@@ -14,27 +14,27 @@ returns c = record { own = λ z. (refl, refl); turned = λ d. absurd (d (sym (c 
 
 -- the rank that turns its class
 turned : (c : tie.Else1) →
-    let a = c .before .before .before .before .before .args in
+    let a = c .before .before .before .before .before .before .args in
     (a .g .batch * (c .before .rank-class .result - 1) ≡ turningRank (a .dead .now) (rankClass (a .dead .now) (a .v)))
     × Rank (a .dead .now) (turningRank (a .dead .now) (rankClass (a .dead .now) (a .v))) 0 0
 unfolding turningRank
 turned c =
-    let st = c .before .before .before .before .before in
+    let st = c .before .before .before .before .before .before in
     let k = c .before .rank-class .ensures in
     (ap₂ (λ x y. x * (y - 1)) (st .pre .0 .0 .batch-is) k, turning-rank _ _ (let z = c .if1 .left in omega arith) (rankClass-le _ _))
 
 mul-turning : tie.Need-mul-turning
 mul-turning c =
-    let R = c .before .before .before .before .before .pre .0 .0 in
+    let R = c .before .before .before .before .before .before .pre .0 .0 in
     omega (arith, turned c .0, turned c .1 .below, bounded R .dead-high)
 
 cross-from-requires : tie.Need-cross-from-requires
 cross-from-requires c κs =
-    let st = c .before .before .before .before .before .before in
+    let st = c .before .before .before .before .before .before .before in
     let p = st .pre .0 in
     let t = turned (c .before) in
     let z = c .before .if1 .left in (
-      (p .0, p .1, rw (t .0) (t .1 .below), λ e. z (c .before .before .rank-class .ensures ∙ ap (rankClass (st .args .dead .now)) (sym e ∙ t .0) ∙ t .1 .class), omega arith),
+      (p .0, p .1, rw (t .0) (t .1 .below), λ e. z (c .before .before .rank-class .ensures ∙ ap (rankClass (st .args .dead .now)) (sym e ∙ t .0) ∙ t .1 .class), omega arith, p .2, rw (t .0, t .1 .class) (p .3)),
       st .pre .1,
     )
 

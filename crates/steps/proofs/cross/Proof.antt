@@ -1,101 +1,121 @@
--- `steps::cross` meets its contract: what the sums passed leave stands at their places, and elsewhere what stood there. Assumes nothing.
-use mathlib.Core.Path.{_≡_, sym, ap, ap₂, _∙_}
-use mathlib.Core.List.{List}
-use Prim.Native.Nat.{ℕ, _-_, _≤_}
+-- `steps::cross` meets its contract. Assumes nothing.
+use mathlib.Core.Path.{_≡_, refl, sym, ap, _∙_}
+use Prim.Native.Nat.{_+_, _-_, _*_, _≤_, _<_}
+use native.Mathlib.Nat.{mul-le-mul}
 use native.Mathlib.Omega.{arith}
-use borrow.Author.Needs.{needs}
-use borrow.Author.Tests.{not-true, not-false}
-use lib.ListN.{length, getD, length-set}
-use Rattle.lists.specs.Lists.{element}
-use Rattle.shape.specs.declared.Shape.{Shape}
-use Rattle.shape.specs.Shape.{size}
+use lib.ListN.{length, take, drop, length-take, length-drop}
+use Rattle.lists.specs.Lists.{piece}
 use Rattle.code.specs.Code.{narrow}
-use Rattle.field.specs.Residues.{minus}
-use Rattle.classes.specs.Classes.{sumAt, placeAt}
-use Rattle.steps.specs.Storing.{sumSymbol}
-use Rattle.classes.proofs.Layouts.{share-high, ready-dead}
-use Rattle.classes.proofs.Passes.{numberAt, number-none, number-yes, number-no, Here, here, missed, sum-below}
-use Rattle.steps.proofs.Storing.{Crossing, crossing-none, crossing-skip, crossing-from, crossing-more}
+use Rattle.classes.proofs.Layouts.{bounded}
+use Rattle.steps.proofs.Parts.{piece-part}
+use Rattle.steps.proofs.Batch.{Pieces, pieces-none, pieces-more}
+use Rattle.steps.proofs.Turned.{BatchCrossed, turn-high, Tabled, tabled, Room, room, blocks-are, apart-by, crossed-done}
+use borrow.Author.Needs.{needs}
 use Rattle.steps.proofs.cross.Statement.{statement}
 use Rattle.steps.proofs.cross.Tie as tie
 
--- what is left of the sum of batch b and a
-left : Shape → List ℕ → ℕ → ℕ → List ℕ → List ℕ → ℕ → ℕ → ℕ
-left s dead u which sums old b a = minus (narrow .modulus) (element sums (sumAt s dead u b a)) (sumSymbol s dead u (1 - which) b a old)
-
 abbrev Inv-loop : tie.InvT-loop
-Inv-loop g dead u which sums symbols₀ class count x₀ e₀ symbols x e =
-    (e ≤ count) × (x ≡ numberAt (g .shape) dead class e) × (length symbols ≡ size (g .shape))
-    × Crossing (g .shape) dead u which (left (g .shape) dead u which sums symbols₀) e symbols₀ symbols
+Inv-loop dead u which table sums symbols₀ count turn near far block batches b₀ symbols b =
+    (b ≤ batches) × Pieces batches block (BatchCrossed narrow (take count table) near far sums) b symbols₀ symbols
 
 abbrev μ-loop : tie.MeasureT-loop
-μ-loop g dead u which sums symbols₀ class count x₀ e₀ symbols x e = count - e
+μ-loop dead u which table sums symbols₀ count turn near far block batches b₀ symbols b = batches - b
+
+-- the rank's table
+known : (c : tie.At-loop Inv-loop μ-loop) → let a = c .before .before .before .before .before .before .before .before .args in Tabled (a .dead .now) (a .g) (a .u) (c .before .before .before .before .before .before .before .before .args .table .now) (c .before .before .before .class-size .result) (c .before .before .turn-of .result)
+known c =
+    let st = c .before .before .before .before .before .before .before .before in
+    tabled (st .pre .0) (st .args .u) _ _ _ (st .args .table .now) refl (st .pre .3) (st .pre .2) (c .before .before .before .class-size .ensures) (c .before .before .turn-of .ensures)
+
+-- the batch's parts are within their buffers
+part : (c : tie.In-loop Inv-loop μ-loop) → let a = c .before .before .before .before .before .before .before .before .before .args in Room (a .dead .now) (a .g) (c .before .loop .b) (c .before .before .before .before .class-size .result)
+part c = let st = c .before .before .before .before .before .before .before .before .before in room (st .pre .0) _ (st .pre .1) _ _ _ (known (c .before)) (c .before .loop .b) (omega arith)
+
+mul-near : tie.Need-mul-near Inv-loop μ-loop
+mul-near c = let st = c .before .before .before .before .before .before in omega (arith, turn-high (st .pre .0) (st .args .u) (c .turn-of .result) (1 - st .args .which) (st .pre .1) (c .turn-of .ensures) (omega arith))
+
+mul-far : tie.Need-mul-far Inv-loop μ-loop
+mul-far c = let st = c .before .before .before .before .before .before in omega (arith, turn-high (st .pre .0) (st .args .u) (c .turn-of .result) (st .args .which) (st .pre .1) (c .turn-of .ensures) (st .pre .4))
+
+mul-block : tie.Need-mul-block Inv-loop μ-loop
+mul-block c = let b = bounded (c .before .before .before .before .before .before .before .pre .0) in omega (arith, mul-le-mul {n₂ = 12} {m₂ = 4096} (b .batch-high) (b .places-high))
 
 loop-holds : tie.Need-loop-holds Inv-loop μ-loop
-loop-holds c =
-    let st = c .before .before .before .before .before in
-    (search needs, number-none _ _ _, st .pre .4, crossing-none (ready-dead (st .pre .0)) _ (st .pre .1) _ (st .pre .2) _ _)
+loop-holds c = (search needs, pieces-none _ _ _ _)
+
+mul-at : tie.Need-mul-at Inv-loop μ-loop
+mul-at c = omega (arith, part c)
+
+add-end : tie.Need-add-end Inv-loop μ-loop
+add-end c = omega (arith, part c)
+
+mul-from : tie.Need-mul-from Inv-loop μ-loop
+mul-from c = omega (arith, part c)
+
+add-to : tie.Need-add-to Inv-loop μ-loop
+add-to c = omega (arith, part c)
+
+slice-aggregate-cross-batch : tie.Need-slice-aggregate-cross-batch Inv-loop μ-loop
+slice-aggregate-cross-batch c = let k = known (c .before .before) in k .count-is ∙ ap length (sym (k .front))
+
+mul-cross-batch : tie.Need-mul-cross-batch Inv-loop μ-loop
+mul-cross-batch c = omega (arith, part (c .before))
+
+part-cross-batch-end : tie.Need-part-cross-batch-end Inv-loop μ-loop
+part-cross-batch-end c = omega (arith, part (c .before), c .before .before .before .before .before .before .before .before .before .before .pre .5)
+
+mul-cross-batch-2 : tie.Need-mul-cross-batch-2 Inv-loop μ-loop
+mul-cross-batch-2 c = omega (arith, part (c .before .before))
+
+part-cross-batch-end-2 : tie.Need-part-cross-batch-end-2 Inv-loop μ-loop
+part-cross-batch-end-2 c = let r = part (c .before .before) in omega (arith, r .block, c .before .before .before .before .before .before .before .before .before .before .before .pre .6, c .before .before .before .loop .inv .1 .long)
+
+cross-batch-requires : tie.Need-cross-batch-requires Inv-loop μ-loop
+cross-batch-requires c κs =
+    let i = c .before .before .before in
+    let st = i .before .before .before .before .before .before .before .before .before in
+    let l = i .before .loop in
+    let k = known (i .before) in
+    let block = st .args .g .batch * st .args .g .places in
+    let count = i .before .before .before .before .class-size .result in
+    let members = take count (i .before .before .before .before .before .before .before .before .before .args .table .now) in
+    let turn = i .before .before .before .turn-of .result in
+    let r = part i in
+    let n : length members ≡ count = ap length (k .front) ∙ sym (k .count-is) in
+    let long : length (take (l .b * block + block - l .b * block) (drop (l .b * block) (l .symbols))) ≡ block = simp (length-take, length-drop) (omega (arith, r .block, st .pre .6, l .inv .1 .long)) in
+    let h : l .b < st .args .g .batches = omega arith in
+    (rw long (apart-by (st .pre .0) _ (st .pre .1) _ _ _ k (l .b) h (st .args .which) (st .pre .4)), rw n (simp (length-take, length-drop) (omega (arith, r .sums, st .pre .5))))
 
 loop-again : tie.Need-loop-again Inv-loop μ-loop
 loop-again c =
-    let st = c .before .before .before .before .before .before .before .before .before in
-    let l = c .before .before .before .loop in
-    let t = sym (c .before .of-class .ensures) ∙ not-true _ (c .if1 .taken) in (
+    let i = c .before .before .before .before .before .before in
+    let st = i .before .before .before .before .before .before .before .before .before in
+    let l = i .before .loop in
+    let k = known (i .before) in
+    let block = st .args .g .batch * st .args .g .places in
+    let count = i .before .before .before .before .class-size .result in
+    let members = take count (i .before .before .before .before .before .before .before .before .before .args .table .now) in
+    let turn = i .before .before .before .turn-of .result in
+    let r = part i in
+    let n : length members ≡ count = ap length (k .front) ∙ sym (k .count-is) in
+    let long : length (take (l .b * block + block - l .b * block) (drop (l .b * block) (l .symbols))) ≡ block = simp (length-take, length-drop) (omega (arith, r .block, st .pre .6, l .inv .1 .long)) in
+    let m = c .before .before .cross-batch in
+    let e : take (l .b * count + count - l .b * count) (drop (l .b * count) (st .args .sums .now)) ≡ piece (length members) (l .b) (st .args .sums .now) =
+    piece-part count (l .b) (st .args .sums .now) ∙ ap (λ z. piece z (l .b) (st .args .sums .now)) (sym n) in (
       search needs,
-      number-no _ _ _ _ _ (l .inv .1) t,
-      l .inv .2,
-      crossing-skip (ready-dead (st .pre .0)) _ (st .pre .1) _ (st .pre .2) _ _ _ _ (l .inv .3) (missed _ _ _ (rw (c .before .before .before .before .before .rank-class .ensures) at t)),
+      pieces-more (st .args .g .batches) block (BatchCrossed narrow members (turn * (1 - st .args .which)) (turn * st .args .which) (st .args .sums .now)) (st .args .symbols .now) (l .b) (l .symbols) _
+          (st .pre .6 ∙ sym (blocks-are (st .pre .0) _ (st .pre .1) _ _ _ k)) (omega arith) (l .inv .1) (rw (e, piece-part block (l .b) (l .symbols)) at (m .ensures)) (m .kept .1 .1 .1 .1 .0 ∙ long),
     )
 
--- the sum at e
-at : (c : tie.Else1 Inv-loop μ-loop) →
-    let a = c .before .before .before .before .before .before .before .before .before .args in
-    let l = c .before .before .before .loop in
-    Here (a .g .shape) (a .dead .now) (a .u) (l .e) (l .x)
-at c =
-    let k = c .before .before .before .before .before .rank-class .ensures in
-    here (c .before .before .before .before .before .before .before .before .before .pre .0) _ _ _ (omega arith) (rw k at (sym (c .before .of-class .ensures) ∙ not-false _ (c .if1 .left))) (rw k at (c .before .before .before .loop .inv .1))
-
-mul-difference : tie.Need-mul-difference Inv-loop μ-loop
-mul-difference c = omega (arith, at (c .before .before) .below, share-high (c .before .before .before .before .before .before .before .before .before .before .before .pre .0))
-
-shared-slice-read-difference : tie.Need-shared-slice-read-difference Inv-loop μ-loop
-shared-slice-read-difference c = omega (arith, at (c .before .before .before) .below)
-
-add-x : tie.Need-add-x Inv-loop μ-loop
-add-x c = omega (arith, at (c .before .before .before .before .before) .below, share-high (c .before .before .before .before .before .before .before .before .before .before .before .before .before .before .pre .0))
-
-loop-again-2 : tie.Need-loop-again-2 Inv-loop μ-loop
-unfolding left sumSymbol placeAt
-loop-again-2 c =
-    let st = c .before .before .before .before .before .before .before .before .before .before .before .before .before .before in
-    let l = c .before .before .before .before .before .before .before .before .loop in
-    let H = at (c .before .before .before .before .before) in
-    let D = ready-dead (st .pre .0) in
-    let p = c .before .before .before .before .place .ensures in
-    let q = c .before .before .before .place2 .ensures in (
-      search needs,
-      number-yes _ _ _ _ _ (l .inv .1) (sym (c .before .before .before .before .before .before .of-class .ensures) ∙ not-false _ (c .before .before .before .before .before .if1 .left)),
-      simp length-set (l .inv .2),
-      rw (q .1)
-          (crossing-more D (st .args .u) (st .pre .1) (st .args .which) (st .pre .2) _ (st .args .symbols .now) (l .e) (l .symbols) (l .inv .3) (l .x) H (c .difference .result)
-          (rw (← (q .1)) (omega (arith, st .pre .4)))
-          (c .difference .ensures
-          ∙ ap₂ (minus (narrow .modulus)) (ap (element (st .args .sums .now)) (sym (H .number)))
-          (ap (λ z. getD (l .symbols) z 0) (p .1) ∙ crossing-from D (st .args .u) (st .pre .1) (st .args .which) (st .pre .2) _ (st .args .symbols .now) (l .e) (l .symbols) (l .inv .3) (l .x) H))),
-    )
+same-length : tie.Need-same-length Inv-loop μ-loop
+same-length c = c .before .loop .inv .1 .long
 
 returns : tie.Need-returns Inv-loop μ-loop
-unfolding left sumSymbol
 returns c =
-    let st = c .before .before .before .before .before .before .before in
+    let st = c .before .before .before .before .before .before .before .before .before in
     let l = c .before .loop in
-    let R = st .pre .0 in
-    record {
-      long = l .inv .3 .long;
-      each = λ b a S. l .inv .3 .each b a S (omega (arith, sum-below R _ b a S, c .before .before .first-places .ensures));
-      rest = λ x h. l .inv .3 .rest x (λ b a S m. h b a S);
-    }
+    let e : l .b ≡ st .args .g .batches = omega arith in
+    crossed-done (st .pre .0) _ (st .pre .1) _ _ _ (known (c .before)) narrow _ (st .pre .4) _ (st .args .symbols .now) (l .symbols) (st .pre .6) (rw e at (l .inv .1))
 
 pub cross-spec : {M : Type 1} → statement M
 cross-spec =
@@ -105,24 +125,27 @@ cross-spec =
     μ-loop
     (λ c κs. search needs)
     (λ c κs. search needs)
+    (λ c. search needs)
+    mul-near
+    mul-far
+    mul-block
     loop-holds
-    (λ c κs. search needs)
+    mul-at
+    add-end
+    mul-from
+    add-to
+    slice-aggregate-cross-batch
+    mul-cross-batch
+    (λ c. search needs)
+    (λ c. search needs)
+    part-cross-batch-end
+    mul-cross-batch-2
+    (λ c. search needs)
+    (λ c. search needs)
+    part-cross-batch-end-2
+    cross-batch-requires
     (λ c. search needs)
     (λ c. search needs)
     loop-again
-    (λ c. search needs)
-    (λ c κs. search needs)
-    (λ c κs. search needs)
-    mul-difference
-    shared-slice-read-difference
-    (λ c. search needs)
-    (λ c. search needs)
-    (λ c κs. search needs)
-    (λ c. search needs)
-    (λ c. search needs)
-    add-x
-    (λ c. search needs)
-    (λ c. search needs)
-    loop-again-2
-    (λ c. search needs)
+    same-length
     returns)

@@ -18,10 +18,10 @@ use Rattle.steps.proofs.cross_from.Tie as tie
 
 -- the message is within what was received
 within : (c : tie.After-among) →
-    let a = c .before .before .before .before .args in
+    let a = c .before .before .before .before .before .args in
     (c .among .result * a .g .share + a .g .share ≤ length (a .received .now)) × (a .g .share ≡ messageSize (a .g .shape) (a .dead .now))
 within c =
-    let st = c .before .before .before .before in
+    let st = c .before .before .before .before .before in
     let p = st .pre .0 in
     let M = messageSize (st .args .g .shape) (st .args .dead .now) in
     let l : c .among .result < length (st .args .dead .now) - 1 = rw (c .among .ensures) (place-below (length (st .args .dead .now)) (st .args .v) (st .args .u) (p .1) (p .2) (p .3)) in
@@ -42,15 +42,15 @@ part-cross-end c = within c .0
 
 cross-requires : tie.Need-cross-requires
 cross-requires c κs =
-    let st = c .before .before .before .before .before .before in
+    let st = c .before .before .before .before .before .before .before in
     let p = st .pre .0 in
     let w = within (c .before .before) in
-    (p .0, p .2, p .4, simp (length-take, length-drop) (omega (arith, w .0, w .1)), st .pre .1 .1)
+    (p .0, p .2, p .5, p .6, p .4, simp (length-take, length-drop) (omega (arith, w .0, w .1)), st .pre .1 .1)
 
 returns : tie.Need-returns
 unfolding sentBy
 returns c =
-    let st = c .before .before .before .before .before .before .before .before .before in
+    let st = c .before .before .before .before .before .before .before .before .before .before in
     let a = st .args in
     let w = within (c .before .before .before .before .before) in
     let at = c .before .before .before .before .before .among .result * a .g .share in

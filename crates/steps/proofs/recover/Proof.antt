@@ -1,84 +1,27 @@
--- `steps::recover` meets its contract: the places of the ranks passed are settled. Assumes nothing.
-use mathlib.Core.Path.{_≡_, refl, subst, _∙_}
-use mathlib.Core.List.{List}
-use Prim.Native.Nat.{ℕ, _-_, _≤_}
-use native.Mathlib.Omega.{arith}
+-- `steps::recover` meets its contract: the second step is made with a table, small or large. Assumes nothing.
 use borrow.Author.Needs.{needs}
-use borrow.Author.Tests.{eqb-false}
-use lib.ListN.{length}
-use Rattle.lists.proofs.Tests.{neither}
-use Rattle.shape.specs.Shape.{size}
-use Rattle.code.specs.Code.{narrow}
-use Rattle.classes.proofs.Layouts.{ready-dead}
-use Rattle.steps.proofs.Recovery.{Known, begun, skipped, crossed, recovered}
+use Rattle.classes.proofs.Layouts.{bounded}
 use Rattle.steps.proofs.recover.Statement.{statement}
 use Rattle.steps.proofs.recover.Tie as tie
 
-abbrev Inv-loop : tie.InvT-loop
-Inv-loop g dead v received symbols₀ turning u₀ u-end symbols u =
-    (u ≤ length dead) × (u-end ≡ length dead) × (length symbols ≡ size (g .shape))
-    × ((pairs : List ℕ) → Known narrow (g .shape) dead v pairs received 0 symbols₀ → Known narrow (g .shape) dead v pairs received u symbols)
+recover-with-requires-2 : tie.Need-recover-with-requires-2
+recover-with-requires-2 c κs = let p = c .before .before .before .before .before .before .before .pre in ((p .0 .0, p .0 .1, bounded (p .0 .0) .places-high), p .1)
 
-abbrev μ-loop : tie.MeasureT-loop
-μ-loop g dead v received symbols₀ turning u₀ u-end symbols u = u-end - u
+returns : tie.Need-returns
+returns c = c .before .before .before .recover-with .ensures
 
-loop-holds : tie.Need-loop-holds Inv-loop μ-loop
-loop-holds c = (omega arith, refl, c .before .before .begin .kept .1 .1 .1 .1 .0 ∙ c .before .before .before .before .before .before .before .pre .1 .1, λ pairs K. K)
-
-loop-again : tie.Need-loop-again Inv-loop μ-loop
-loop-again c =
-    let st = c .before .before .before .before .before .before .before .before .before .before in
-    let l = c .before .before .loop in (
-      omega arith,
-      refl,
-      l .inv .2,
-      λ pairs K. skipped narrow (ready-dead (st .pre .0 .0)) _ (st .pre .0 .1) _ _ _ _ _ (c .before .before .before .before .before .begin .ensures) _ (omega arith) _ (l .inv .3 pairs K) (c .if1 .taken),
-    )
-
-cross-from-requires : tie.Need-cross-from-requires Inv-loop μ-loop
-cross-from-requires c κs =
-    let st = c .before .before .before .before .before .before .before .before .before .before .before in
-    let p = st .pre .0 in
-    ((p .0, p .1, omega arith, eqb-false _ _ (neither _ _ (c .before .if1 .left) .0), omega arith), (st .pre .1 .0, c .before .before .before .loop .inv .2))
-
-loop-again-2 : tie.Need-loop-again-2 Inv-loop μ-loop
-loop-again-2 c =
-    let st = c .before .before .before .before .before .before .before .before .before .before .before .before .before .before in
-    let l = c .before .before .before .before .before .before .loop in (
-      omega arith,
-      refl,
-      c .before .before .cross-from .kept .1 .1 .1 .1 .1 .1 .0 ∙ l .inv .2,
-      λ pairs K.
-          crossed narrow (ready-dead (st .pre .0 .0)) _ (st .pre .0 .1) _ _ _ _ _ (c .before .before .before .before .before .before .before .before .before .begin .ensures) _ (omega arith) _ (l .inv .3 pairs K) (c .before .before .before .before .if1 .left) _ (c .before .before .cross-from .ensures),
-    )
-
-returns : tie.Need-returns Inv-loop μ-loop
-returns c =
-    let st = c .before .before .before .before .before .before .before .before .before in
-    let l = c .before .loop in
-    let D = ready-dead (st .pre .0 .0) in
-    let e : l .u ≡ length (st .args .dead .now) = omega arith in
-    record {
-      whole = λ pairs G.
-          recovered narrow D (st .args .v) (st .pre .0 .1) pairs (st .args .received .now) (l .symbols)
-          (subst (λ z. Known narrow (st .args .g .shape) (st .args .dead .now) (st .args .v) pairs (st .args .received .now) z (l .symbols)) e
-          (l .inv .3 pairs (begun narrow D _ (st .pre .0 .1) pairs _ _ _ _ (c .before .before .before .before .begin .ensures) G)));
-    }
+returns-2 : tie.Need-returns-2
+returns-2 c = c .before .before .before .recover-with2 .ensures
 
 pub recover-spec : {M : Type 1} → statement M
 recover-spec =
     tie.close
     (tie.spec
-    Inv-loop
-    μ-loop
+    (λ c. search needs)
     (λ c κs. search needs)
-    loop-holds
     (λ c. search needs)
+    recover-with-requires-2
     (λ c. search needs)
-    loop-again
-    cross-from-requires
+    returns
     (λ c. search needs)
-    (λ c. search needs)
-    loop-again-2
-    (λ c. search needs)
-    returns)
+    returns-2)

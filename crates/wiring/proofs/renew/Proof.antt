@@ -11,7 +11,7 @@ use Rattle.shape.specs.Shape.{size}
 use Rattle.shape.proofs.Accepted.{shape-accepted}
 use Rattle.classes.specs.Classes.{node, messageSize}
 use Rattle.classes.proofs.Layouts.{ready-dead, node-high, bounded, share-high}
-use Rattle.wiring.proofs.Parts.{row-within, piece-part}
+use Rattle.steps.proofs.Parts.{row-within, piece-part}
 use Rattle.wiring.proofs.OnWire.{Room, wire-room, lent-others}
 use Rattle.wiring.proofs.Ranked.{Renewing, renewing-none, renewing-more, renewing-end, recovers-as}
 use Rattle.wiring.proofs.renew.Statement.{statement}

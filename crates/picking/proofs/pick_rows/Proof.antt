@@ -1,4 +1,4 @@
--- `patterns::pick_rows` meets its contract. Assumes nothing.
+-- `picking::pick_rows` meets its contract. Assumes nothing.
 use mathlib.Core.Path.{_≡_, refl, _∙_}
 use mathlib.Core.Bool.{Bool, false}
 use mathlib.Core.List.{List}
@@ -8,14 +8,14 @@ use lib.ListN.{length, getD}
 use Rattle.lists.specs.Lists.{member}
 use Rattle.rows.specs.Rows.{mostPlaces}
 use Rattle.tables.specs.Tables.{tableSize, NodeRows}
-use Rattle.patterns.specs.Patterns.{Pickable}
-use Rattle.patterns.proofs.Picking.{picks-none, picks-more}
+use Rattle.picking.specs.Picking.{Pickable}
+use Rattle.picking.proofs.Picking.{picks-none, picks-more}
 use Rattle.tables.proofs.Tables.{row-room}
 use Rattle.lists.proofs.Members.{rising-below}
 use Rattle.lists.proofs.Others.{rising-fits}
 use borrow.Author.Needs.{needs}
-use Rattle.patterns.proofs.pick_rows.Statement.{statement}
-use Rattle.patterns.proofs.pick_rows.Tie as tie
+use Rattle.picking.proofs.pick_rows.Statement.{statement}
+use Rattle.picking.proofs.pick_rows.Tie as tie
 
 abbrev Inv-loop : tie.InvT-loop
 Inv-loop n a run list picks last source i table₀ k j₀ table j = (j ≤ k) × (length table ≡ length table₀)

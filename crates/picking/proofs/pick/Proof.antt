@@ -1,4 +1,4 @@
--- `patterns::pick` meets its contract. Assumes nothing.
+-- `picking::pick` meets its contract. Assumes nothing.
 use mathlib.Core.Path.{_≡_, sym, _∙_, subst}
 use Prim.Native.Nat.{ℕ, _+_, _-_, _^_, _≤_, _<_}
 use native.Mathlib.Omega.{arith}
@@ -7,10 +7,11 @@ use lib.Pow.{pow-mono}
 use Rattle.shape.specs.Shape.{mostNodes}
 use Rattle.tables.specs.Tables.{TableOf}
 use Rattle.tables.proofs.Tables.{table-none, table-skip, table-more}
-use Rattle.patterns.specs.Patterns.{pattern, patterns, Pickable}
+use Rattle.patterns.specs.Patterns.{pattern, patterns}
+use Rattle.picking.specs.Picking.{Pickable}
 use Rattle.patterns.proofs.Patterns.{pattern-lt}
-use Rattle.patterns.proofs.pick.Statement.{statement}
-use Rattle.patterns.proofs.pick.Tie as tie
+use Rattle.picking.proofs.pick.Statement.{statement}
+use Rattle.picking.proofs.pick.Tie as tie
 
 abbrev Inv-loop : tie.InvT-loop
 Inv-loop n m a run list source table₀ marked picks last i₀ table i = (i ≤ m) × TableOf n (_+_ a) run list i table

@@ -1,11 +1,11 @@
--- `patterns::looked_up` meets its contract. Assumes nothing.
+-- `picking::looked_up` meets its contract. Assumes nothing.
 use mathlib.Core.Path.{_≡_}
 use native.Mathlib.Omega.{arith}
 use borrow.Author.Needs.{needs}
 use borrow.Author.Tests.{eq-eqb, ne-eqb}
-use Rattle.patterns.specs.Patterns.{lookedUp}
-use Rattle.patterns.proofs.looked_up.Statement.{statement}
-use Rattle.patterns.proofs.looked_up.Tie as tie
+use Rattle.picking.specs.Picking.{lookedUp}
+use Rattle.picking.proofs.looked_up.Statement.{statement}
+use Rattle.picking.proofs.looked_up.Tie as tie
 
 returns : tie.Need-returns
 unfolding lookedUp

@@ -1,4 +1,4 @@
--- `patterns::pick_row` meets its contract. Assumes nothing.
+-- `picking::pick_row` meets its contract. Assumes nothing.
 use mathlib.Core.Path.{_≡_, ap, _∙_}
 use Prim.Native.Nat.{_+_, _-_, _≤_, _<_}
 use native.Mathlib.Omega.{arith}
@@ -7,9 +7,9 @@ use lib.ListN.{length, getD}
 use Rattle.lists.specs.Digits.{bit}
 use Rattle.rows.specs.Rows.{Stored}
 use Rattle.rows.proofs.Rows.{stored-none, stored-more}
-use Rattle.patterns.specs.Patterns.{lookedUp, picked}
-use Rattle.patterns.proofs.pick_row.Statement.{statement}
-use Rattle.patterns.proofs.pick_row.Tie as tie
+use Rattle.picking.specs.Picking.{lookedUp, picked}
+use Rattle.picking.proofs.pick_row.Statement.{statement}
+use Rattle.picking.proofs.pick_row.Tie as tie
 
 abbrev Inv-loop : tie.InvT-loop
 Inv-loop node a run picks last source at table₀ t₀ table t = (t ≤ run) × Stored at t (picked a node picks last source at) table₀ table

@@ -1,9 +1,9 @@
--- `patterns::run_multipliers` meets its contract. Assumes nothing.
+-- `picking::run_multipliers` meets its contract. Assumes nothing.
 use native.Mathlib.Omega.{arith}
 use borrow.Author.Needs.{needs}
 use lib.Pow.{pow-mono}
-use Rattle.patterns.proofs.run_multipliers.Statement.{statement}
-use Rattle.patterns.proofs.run_multipliers.Tie as tie
+use Rattle.picking.proofs.run_multipliers.Statement.{statement}
+use Rattle.picking.proofs.run_multipliers.Tie as tie
 
 pick-requires : tie.Need-pick-requires
 pick-requires c κs =

@@ -23,8 +23,9 @@ use Rattle.multipliers.specs.Multipliers.{multiplier}
 use Rattle.multipliers.proofs.Multipliers.{multiplier-ext}
 use Rattle.multipliers.proofs.Opposites.{multiplier-opposite}
 use Rattle.tables.specs.Tables.{MultiplierRow, NodeRows}
-use Rattle.patterns.specs.Patterns.{pattern, patterns, Stands, lookedUp, picked, Pickable}
+use Rattle.patterns.specs.Patterns.{pattern, patterns, Stands}
+use Rattle.picking.specs.Picking.{lookedUp, picked, Pickable}
 use Rattle.patterns.proofs.Patterns.{pattern-lt, turned-bit, pattern-turned}
 
 abbrev q : ℕ
 q = narrow .modulus

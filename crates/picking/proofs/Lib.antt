@@ -1,0 +1,2 @@
+-- Laws of what is picked.
+pub mod Picking

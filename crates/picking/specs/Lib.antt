@@ -1,0 +1,2 @@
+-- Multipliers picked from few.
+pub mod Picking

@@ -1,0 +1,13 @@
+-- `steps::difference` meets its contract: a multiple of the modulus more leaves the same. Assumes nothing.
+use native.Mathlib.Omega.{arith}
+use borrow.Author.Needs.{needs}
+use Rattle.field.specs.Residues.{minus}
+use Rattle.steps.proofs.difference.Statement.{statement}
+use Rattle.steps.proofs.difference.Tie as tie
+
+returns : tie.Need-returns
+unfolding minus
+returns c = omega arith
+
+pub difference-spec : {M : Type 1} → statement M
+difference-spec = tie.close (tie.spec (λ c. search needs) (λ c. search needs) (λ c. search needs) returns)
