@@ -3,7 +3,7 @@ use mathlib.Core.Path.{_≡_}
 use mathlib.Core.Logic.{_⊎_}
 use mathlib.Core.Bool.{Bool, true, cond}
 use mathlib.Core.List.{List}
-use Prim.Native.Nat.{ℕ, _+_, _*_, _-_, _%_, _<_}
+use Prim.Native.Nat.{ℕ, _+_, _*_, _-_, _%_, _≤_, _<_}
 use lib.Dec.{eqb}
 use lib.ListN.{length, getD}
 use Rattle.lists.specs.Lists.{element, member, rising}
@@ -78,6 +78,7 @@ pub record Spread (run base : ℕ) (at : List ℕ) (f : ℕ → ℕ) (before aft
 
 -- places that lie in a buffer and differ
 pub record Places (run base : ℕ) (at : List ℕ) (size : ℕ) : Type 0 where
+  pub long : run ≤ length at
   pub inside : (t : ℕ) → t < run → base + element at t < size
   pub apart : (t v : ℕ) → t < run → v < run → element at t ≡ element at v → t ≡ v
 

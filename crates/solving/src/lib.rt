@@ -59,9 +59,9 @@ pub fn gather(
 }
 
 // A row of sums modulo 257, each at its place.
-fn spread(run: usize, sums: [u32; RUN], base: usize, at: [usize; RUN], out: &mut [u16])
-    requires { ⌜ (run ≤ mostPlaces) × Places run base at (length (now out)) ⌝ }
-    ensures { λ _. ⌜ Spread run base at (remainder (narrow .modulus) sums) (now (out .entry)) (now (out .exit)) ⌝ }
+fn spread(run: usize, sums: [u32; RUN], base: usize, at: &[usize], out: &mut [u16])
+    requires { ⌜ (run ≤ mostPlaces) × Places run base (now at) (length (now out)) ⌝ }
+    ensures { λ _. ⌜ Spread run base (now (at .entry)) (remainder (narrow .modulus) sums) (now (out .entry)) (now (out .exit)) ⌝ }
 {
     for t in 0..run {
         out[base + at[t]] = (sums[t] % MODULUS) as u16;
@@ -76,11 +76,11 @@ pub fn put_entry(
     sent: &[u16],
     i: usize,
     base: usize,
-    at: [usize; RUN],
+    at: &[usize],
     out: &mut [u16],
 )
-    requires { ⌜ Summable run mostPlaces 0 (now helpers) (now table) (i * length (now helpers)) (now sent) × Places run base at (length (now out)) ⌝ }
-    ensures { λ _. ⌜ Spread run base at (rowSum (now (table .entry)) (now (helpers .entry)) i (now (sent .entry))) (now (out .entry)) (now (out .exit)) ⌝ }
+    requires { ⌜ Summable run mostPlaces 0 (now helpers) (now table) (i * length (now helpers)) (now sent) × Places run base (now at) (length (now out)) ⌝ }
+    ensures { λ _. ⌜ Spread run base (now (at .entry)) (rowSum (now (table .entry)) (now (helpers .entry)) i (now (sent .entry))) (now (out .entry)) (now (out .exit)) ⌝ }
 {
     let sums = sum_row(run, RUN, 0, helpers, table, i * helpers.len(), sent);
     spread(run, sums, base, at, out);
@@ -159,8 +159,8 @@ fn first_run(
     let n = s.n;
     let at = doubled();
     let sent = gather(g, helpers, first, run, messages);
-    put_entry(helpers, run, table, &sent, dead[u], first * 2, at, pairs);
-    put_entry(helpers, run, table, &sent, n, first * 2 + 1, at, pairs);
+    put_entry(helpers, run, table, &sent, dead[u], first * 2, &at, pairs);
+    put_entry(helpers, run, table, &sent, n, first * 2 + 1, &at, pairs);
     hand_out(g, dead, helpers, u, false, first, run, table, &sent, sums);
 }
 

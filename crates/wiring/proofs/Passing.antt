@@ -68,9 +68,10 @@ module _ {s : Shape} {dead : List ℕ} (D : Dead s dead) (u : ℕ) (l : u < leng
   own-below (suc (suc e)) x h k = absurd (omega arith)
 
   -- so a run's can be stored at
-  pub own-places : (e first run row : ℕ) (at : List ℕ) → e < 2 → first + run ≤ messageSize s dead → ((t : ℕ) → t < run → row + element at t ≡ ownPlace s dead u e (first + t))
+  pub own-places : (e first run row : ℕ) (at : List ℕ) → run ≤ length at → e < 2 → first + run ≤ messageSize s dead → ((t : ℕ) → t < run → row + element at t ≡ ownPlace s dead u e (first + t))
       → Places run row at (size s)
-  own-places e first run row at h room is = record {
+  own-places e first run row at long h room is = record {
+    long = long;
     inside = λ t k. rw (is t k) (own-below e (first + t) h (omega arith));
     apart = λ t v k m q.
         let z = own-apart e (first + t) e (first + v) h h (omega arith) (omega arith) (sym (is t k) ∙ ap (λ y. row + y) q ∙ is v m) .1 in
@@ -108,10 +109,10 @@ module _ {dead : List ℕ} {g : Layout} (R : Ready dead g) (u first run : ℕ) (
       ∙ sym (own-place (g .shape) dead u e b a _ (member-sum (g .shape) dead u b (first + t) hb l) (member-number (g .shape) dead u b (first + t) hb l))
       ∙ ap (ownPlace (g .shape) dead u e) (let z : b * C + (first + t) ≡ b * C + first + t = omega arith in z)
 
-  pub offsets-are : (ones others : List ℕ) → ((t : ℕ) → t < run → element ones t ≡ placeAt (g .shape) dead u 0 (getD class (first + t) 0))
+  pub offsets-are : (ones others : List ℕ) → run ≤ length ones → run ≤ length others → ((t : ℕ) → t < run → element ones t ≡ placeAt (g .shape) dead u 0 (getD class (first + t) 0))
       → ((t : ℕ) → t < run → element others t ≡ placeAt (g .shape) dead u 1 (getD class (first + t) 0)) → (b : ℕ) → b < g .batches
       → Offsets (g .shape) dead u (b * length (members dead (rankClass dead u) (2 ^ g .shape .n)) + first) run (b * g .batch * g .places) ones others
-  offsets-are ones others f h b l = record { one = offset-is 0 b ones l f; other = offset-is 1 b others l h }
+  offsets-are ones others p q f h b l = record { ones-long = p; others-long = q; one = offset-is 0 b ones l f; other = offset-is 1 b others l h }
 
 -- a place of layer 0 of batch 0
 pub first-batch : {dead : List ℕ} {g : Layout} → Ready dead g → (a : ℕ) → a < 2 ^ g .shape .n → a < g .batches * g .places

@@ -2,7 +2,7 @@
 use mathlib.Core.Path.{_≡_}
 use mathlib.Core.Bool.{true, cond}
 use mathlib.Core.List.{List}
-use Prim.Native.Nat.{ℕ, _+_, _*_, _-_, _<_}
+use Prim.Native.Nat.{ℕ, _+_, _*_, _-_, _≤_, _<_}
 use lib.Dec.{eqb}
 use lib.ListN.{length, getD, take, drop}
 use Rattle.lists.specs.Lists.{element, flat, piece}
@@ -54,6 +54,8 @@ ownPlace s dead u e x = cond (eqb e 0) (spotAt s dead u x .one) (spotAt s dead u
 
 -- the places of a run of sums behind a row
 pub record Offsets (s : Shape) (dead : List ℕ) (u first run row : ℕ) (ones others : List ℕ) : Type 0 where
+  pub ones-long : run ≤ length ones
+  pub others-long : run ≤ length others
   pub one : (t : ℕ) → t < run → row + element ones t ≡ ownPlace s dead u 0 (first + t)
   pub other : (t : ℕ) → t < run → row + element others t ≡ ownPlace s dead u 1 (first + t)
 

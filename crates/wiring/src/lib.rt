@@ -93,7 +93,7 @@ fn offsets(
     run: usize,
 ) -> [usize; RUN]
     requires { ⌜ (Ready (now dead) g) × (u < length (now dead)) × (Listed (now dead) (rankClass (now dead) u) (g .shape .n) (now class)) × (run ≤ mostPlaces) × (first + run ≤ length (members (now dead) (rankClass (now dead) u) (2 ^ g .shape .n))) ⌝ }
-    ensures { λ out. ⌜ ((t : ℕ) → t < run → element out t ≡ placeAt (g .shape) (now (dead .entry)) u which (getD (now (class .entry)) (first + t) 0)) ⌝ }
+    ensures { λ out. ⌜ (length out ≡ mostPlaces) × ((t : ℕ) → t < run → element out t ≡ placeAt (g .shape) (now (dead .entry)) u which (getD (now (class .entry)) (first + t) 0)) ⌝ }
 {
     let mut out = [0usize; RUN];
     for t in 0..run {
@@ -114,13 +114,13 @@ fn run_on_wire(
     run: usize,
     table: &[u16],
     row: usize,
-    ones: [usize; RUN],
-    others: [usize; RUN],
+    ones: &[usize],
+    others: &[usize],
     part: &mut [u16],
     wire: &mut [u16],
 )
     requires { ⌜ (Ready (now dead) g) × (u < length (now dead)) × (told ≡ inward (g .shape) (now dead)) × (length (now part) ≡ size (g .shape)) × (Wired (g .shape) (now dead) (now helpers) (now wire)) ⌝ }
-    requires { ⌜ (run ≤ mostPlaces) × (first + run ≤ messageSize (g .shape) (now dead)) × (Multiplied (g .shape) (now dead) (now helpers) u first run (now table)) × (Offsets (g .shape) (now dead) u first run row ones others) ⌝ }
+    requires { ⌜ (run ≤ mostPlaces) × (first + run ≤ messageSize (g .shape) (now dead)) × (Multiplied (g .shape) (now dead) (now helpers) u first run (now table)) × (Offsets (g .shape) (now dead) u first run row (now ones) (now others)) ⌝ }
     ensures { λ _. ⌜ OnWire (g .shape) (now (dead .entry)) (now (helpers .entry)) u (InRun first run) (now (part .entry)) (now (part .exit)) (now (wire .entry)) (now (wire .exit)) ⌝ }
 {
     let s = g.shape;
@@ -156,13 +156,13 @@ fn batches_on_wire(
     first: usize,
     run: usize,
     table: &[u16],
-    ones: [usize; RUN],
-    others: [usize; RUN],
+    ones: &[usize],
+    others: &[usize],
     part: &mut [u16],
     wire: &mut [u16],
 )
     requires { ⌜ (Ready (now dead) g) × (u < length (now dead)) × (told ≡ inward (g .shape) (now dead)) × (length (now part) ≡ size (g .shape)) × (Wired (g .shape) (now dead) (now helpers) (now wire)) ⌝ }
-    requires { ⌜ (run ≤ mostPlaces) × (first + run ≤ count) × (messageSize (g .shape) (now dead) ≡ g .batches * count) × ((b : ℕ) → b < g .batches → Multiplied (g .shape) (now dead) (now helpers) u (b * count + first) run (now table)) × ((b : ℕ) → b < g .batches → Offsets (g .shape) (now dead) u (b * count + first) run (b * g .batch * g .places) ones others) ⌝ }
+    requires { ⌜ (run ≤ mostPlaces) × (first + run ≤ count) × (messageSize (g .shape) (now dead) ≡ g .batches * count) × ((b : ℕ) → b < g .batches → Multiplied (g .shape) (now dead) (now helpers) u (b * count + first) run (now table)) × ((b : ℕ) → b < g .batches → Offsets (g .shape) (now dead) u (b * count + first) run (b * g .batch * g .places) (now ones) (now others)) ⌝ }
     ensures { λ _. ⌜ OnWire (g .shape) (now (dead .entry)) (now (helpers .entry)) u (InLayers count first run (g .batches)) (now (part .entry)) (now (part .exit)) (now (wire .entry)) (now (wire .exit)) ⌝ }
 {
     let batches = g.batches;
@@ -219,8 +219,8 @@ fn first_on_wire(
             first,
             run,
             &table,
-            ones,
-            others,
+            &ones,
+            &others,
             part,
             wire,
         );

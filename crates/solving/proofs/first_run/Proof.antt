@@ -25,6 +25,7 @@ places c e h =
     let p = c .before .before .before .before .before .before .before .before .pre in
     let d = c .doubled .ensures in
     record {
+      long = omega (arith, d .0, p .0 .2);
       inside = λ t l. omega (arith, d .1 t (omega (arith, p .0 .2)), p .1 .0, p .0 .3);
       apart = λ t v l k q. omega (arith, d .1 t (omega (arith, p .0 .2)), d .1 v (omega (arith, p .0 .2)), q);
     }
@@ -41,36 +42,42 @@ mul-put-entry-2 c = omega (arith, short (c .before .before .before .before .befo
 put-entry-requires : tie.Need-put-entry-requires
 unfolding node
 put-entry-requires c κs =
-    let st = c .before .before .before .before .before .before .before .before .before .before .before .before in
+    let st = c .before .before .before .before .before .before .before .before .before .before .before .before .before in
     let p = st .pre .0 in
     let e : st .args .first * 2 ≡ st .args .first * 2 + 0 = omega arith in
-    (entry-summable (p .0) _ _ _ (p .1) _ _ (p .2) (p .3) _ _ (p .4) (c .before .before .before .gather .ensures) _ (omega (arith, node-high (p .0) _ (p .1 .rank))), rw e (places (c .before .before .before .before) 0 (omega arith)))
+    (entry-summable (p .0) _ _ _ (p .1) _ _ (p .2) (p .3) _ _ (p .4) (c .before .before .before .before .gather .ensures) _ (omega (arith, node-high (p .0) _ (p .1 .rank))), rw e (places (c .before .before .before .before .before) 0 (omega arith)))
 
 slice-aggregate-put-entry-2 : tie.Need-slice-aggregate-put-entry-2
-slice-aggregate-put-entry-2 c = sym (c .before .before .before .before .before .before .before .gather .ensures .long)
+slice-aggregate-put-entry-2 c = sym (c .before .before .before .before .doubled .ensures .0)
+
+slice-aggregate-put-entry-3 : tie.Need-slice-aggregate-put-entry-3
+slice-aggregate-put-entry-3 c = sym (c .before .before .before .before .before .before .before .before .gather .ensures .long)
+
+slice-aggregate-put-entry-4 : tie.Need-slice-aggregate-put-entry-4
+slice-aggregate-put-entry-4 c = sym (c .before .before .before .before .before .before .before .before .before .before .doubled .ensures .0)
 
 mul-put-entry-3 : tie.Need-mul-put-entry-3
-mul-put-entry-3 c = omega (arith, short (c .before .before .before .before .before .before .before .before .before .before .before .before .before .before .before .before))
+mul-put-entry-3 c = omega (arith, short (c .before .before .before .before .before .before .before .before .before .before .before .before .before .before .before .before .before))
 
 add-put-entry : tie.Need-add-put-entry
-add-put-entry c = omega (arith, short (c .before .before .before .before .before .before .before .before .before .before .before .before .before .before .before .before))
+add-put-entry c = omega (arith, short (c .before .before .before .before .before .before .before .before .before .before .before .before .before .before .before .before .before))
 
 put-entry-requires-2 : tie.Need-put-entry-requires-2
 put-entry-requires-2 c κs =
-    let p = c .before .before .before .before .before .before .before .before .before .before .before .before .before .before .before .before .before .pre .0 in
-    (entry-summable (p .0) _ _ _ (p .1) _ _ (p .2) (p .3) _ _ (p .4) (c .before .before .before .before .before .before .before .before .gather .ensures) _ (omega arith), rw (c .before .before .before .before .put-entry .ensures .long) (places (c .before .before .before .before .before .before .before .before .before) 1 (omega arith)))
+    let p = c .before .before .before .before .before .before .before .before .before .before .before .before .before .before .before .before .before .before .before .pre .0 in
+    (entry-summable (p .0) _ _ _ (p .1) _ _ (p .2) (p .3) _ _ (p .4) (c .before .before .before .before .before .before .before .before .before .before .gather .ensures) _ (omega arith), rw (c .before .before .before .before .before .put-entry .ensures .long) (places (c .before .before .before .before .before .before .before .before .before .before .before) 1 (omega arith)))
 
 slice-aggregate-hand-out : tie.Need-slice-aggregate-hand-out
-slice-aggregate-hand-out c = sym (c .before .before .before .before .before .before .before .before .before .before .before .before .gather .ensures .long)
+slice-aggregate-hand-out c = sym (c .before .before .before .before .before .before .before .before .before .before .before .before .before .before .gather .ensures .long)
 
 hand-out-requires : tie.Need-hand-out-requires
 unfolding slots
 hand-out-requires c κs =
-    let p = c .before .before .before .before .before .before .before .before .before .before .before .before .before .before .before .before .before .before .before .before .before .before .pre in
-    ((p .0 .0, p .0 .1 .rank, p .0 .2, p .0 .3, rank-summable (p .0 .0) _ _ _ (p .0 .1) _ _ (p .0 .2) (p .0 .3) _ _ (p .0 .4) (c .before .before .before .before .before .before .before .before .before .before .before .before .before .gather .ensures)), p .1 .1)
+    let p = c .before .before .before .before .before .before .before .before .before .before .before .before .before .before .before .before .before .before .before .before .before .before .before .before .pre in
+    ((p .0 .0, p .0 .1 .rank, p .0 .2, p .0 .3, rank-summable (p .0 .0) _ _ _ (p .0 .1) _ _ (p .0 .2) (p .0 .3) _ _ (p .0 .4) (c .before .before .before .before .before .before .before .before .before .before .before .before .before .before .before .gather .ensures)), p .1 .1)
 
 same-length : tie.Need-same-length
-same-length c = c .before .before .before .before .before .before .before .put-entry2 .ensures .long ∙ c .before .before .before .before .before .before .before .before .before .before .before .before .put-entry .ensures .long
+same-length c = c .before .before .before .before .before .before .before .put-entry2 .ensures .long ∙ c .before .before .before .before .before .before .before .before .before .before .before .before .before .put-entry .ensures .long
 
 same-length-2 : tie.Need-same-length-2
 same-length-2 c = c .before .before .hand-out .ensures .long
@@ -78,11 +85,11 @@ same-length-2 c = c .before .before .hand-out .ensures .long
 returns : tie.Need-returns
 unfolding node
 returns c =
-    let p = c .before .before .before .before .before .before .before .before .before .before .before .before .before .before .before .before .before .before .before .before .before .before .before .before .before .pre .0 in
-    let d = c .before .before .before .before .before .before .before .before .before .before .before .before .before .before .before .before .before .doubled .ensures in (
-      run-owned (p .0) _ _ _ (p .1) _ _ (p .2) (p .3) _ _ (p .4) (c .before .before .before .before .before .before .before .before .before .before .before .before .before .before .before .before .gather .ensures) pairPlace (λ e x d y h l k m. pairs-apart e x d y h l) _ _ _ _ _ _ _ (c .before .before .before .before .before .before .before .before .before .before .before .before .put-entry .ensures) (c .before .before .before .before .before .before .before .put-entry2 .ensures)
+    let p = c .before .before .before .before .before .before .before .before .before .before .before .before .before .before .before .before .before .before .before .before .before .before .before .before .before .before .before .pre .0 in
+    let d = c .before .before .before .before .before .before .before .before .before .before .before .before .before .before .before .before .before .before .before .doubled .ensures in (
+      run-owned (p .0) _ _ _ (p .1) _ _ (p .2) (p .3) _ _ (p .4) (c .before .before .before .before .before .before .before .before .before .before .before .before .before .before .before .before .before .before .gather .ensures) pairPlace (λ e x d y h l k m. pairs-apart e x d y h l) _ _ _ _ _ _ _ (c .before .before .before .before .before .before .before .before .before .before .before .before .before .put-entry .ensures) (c .before .before .before .before .before .before .before .put-entry2 .ensures)
           (λ t l. unfold pairPlace in omega (arith, d .1 t (omega (arith, p .2)))) (λ t l. unfold pairPlace in omega (arith, d .1 t (omega (arith, p .2)))),
-      run-handed (p .0) _ _ _ (p .1) _ _ (p .2) (p .3) _ _ (p .4) (c .before .before .before .before .before .before .before .before .before .before .before .before .before .before .before .before .gather .ensures) false _ _ (c .before .before .hand-out .ensures),
+      run-handed (p .0) _ _ _ (p .1) _ _ (p .2) (p .3) _ _ (p .4) (c .before .before .before .before .before .before .before .before .before .before .before .before .before .before .before .before .before .before .gather .ensures) false _ _ (c .before .before .hand-out .ensures),
     )
 
 pub first-run-spec : {M : Type 1} → statement M
@@ -95,10 +102,12 @@ first-run-spec =
     (λ c. search needs)
     (λ c. search needs)
     mul-put-entry-2
-    put-entry-requires
     slice-aggregate-put-entry-2
+    put-entry-requires
+    slice-aggregate-put-entry-3
     mul-put-entry-3
     add-put-entry
+    slice-aggregate-put-entry-4
     put-entry-requires-2
     slice-aggregate-hand-out
     hand-out-requires

@@ -10,7 +10,7 @@ use Rattle.solving.proofs.put_entry.Statement.{statement}
 use Rattle.solving.proofs.put_entry.Tie as tie
 
 mul-sum-row : tie.Need-mul-sum-row
-mul-sum-row c = omega (arith, c .before .before .before .before .pre .0 .room)
+mul-sum-row c = omega (arith, c .before .before .before .before .before .pre .0 .room)
 
 returns : tie.Need-returns
 unfolding rowSum remainder

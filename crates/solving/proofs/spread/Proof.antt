@@ -13,33 +13,33 @@ use Rattle.solving.proofs.spread.Statement.{statement}
 use Rattle.solving.proofs.spread.Tie as tie
 
 abbrev Inv-loop : tie.InvT-loop
-Inv-loop run base out₀ sums at t₀ out t = (t ≤ run) × Spread t base at (remainder (narrow .modulus) sums) out₀ out
+Inv-loop run base at out₀ sums t₀ out t = (t ≤ run) × Spread t base at (remainder (narrow .modulus) sums) out₀ out
 
 abbrev μ-loop : tie.MeasureT-loop
-μ-loop run base out₀ sums at t₀ out t = run - t
+μ-loop run base at out₀ sums t₀ out t = run - t
 
 loop-holds : tie.Need-loop-holds Inv-loop μ-loop
 loop-holds c = (omega arith, spread-none _ _ _ _)
 
-inside : (c : tie.In-loop Inv-loop μ-loop) → let a = c .before .before .args in a .base + element (a .t4) (c .before .loop .t) < length (a .out .now)
+inside : (c : tie.In-loop Inv-loop μ-loop) → let a = c .before .before .args in a .base + element (a .at .now) (c .before .loop .t) < length (a .out .now)
 inside c = c .before .before .pre .1 .inside (c .before .loop .t) (c .loop-test .taken)
 
 add-out : tie.Need-add-out Inv-loop μ-loop
-add-out c = omega (arith, inside c)
+add-out c = omega (arith, inside (c .before))
 
 mul-out-3 : tie.Need-mul-out-3 Inv-loop μ-loop
-mul-out-3 c = omega (arith, inside c)
+mul-out-3 c = omega (arith, inside (c .before))
 
 slice-write-out : tie.Need-slice-write-out Inv-loop μ-loop
-slice-write-out c = omega (arith, inside c, c .before .loop .inv .1 .long)
+slice-write-out c = omega (arith, inside (c .before), c .before .before .loop .inv .1 .long)
 
 loop-again : tie.Need-loop-again Inv-loop μ-loop
 unfolding remainder
 loop-again c =
-    let l = c .before .loop in
-    let p = c .before .before .pre .1 in (
+    let l = c .before .before .loop in
+    let p = c .before .before .before .pre .1 in (
       omega arith,
-      spread-more _ _ _ _ (l .t) _ _ (l .inv .1) (inside c) refl (λ i h e. let z : i ≡ l .t = p .apart i (l .t) (omega arith) (omega arith) e in omega arith),
+      spread-more _ _ _ _ (l .t) _ _ (l .inv .1) (inside (c .before)) refl (λ i h e. let z : i ≡ l .t = p .apart i (l .t) (omega arith) (omega arith) e in omega arith),
     )
 
 same-length : tie.Need-same-length Inv-loop μ-loop

@@ -74,36 +74,42 @@ slice-aggregate-batches-on-wire c = sym (c .before .before .before .before .befo
 
 batches-on-wire-requires : tie.Need-batches-on-wire-requires Inv-loop μ-loop
 batches-on-wire-requires c κs =
-    let p = c .before .before .before .before .before .before .before .before .before .before .before .before .before .before .before .before .before .before .before .before .before .pre in
-    let l = c .before .before .before .before .before .before .before .before .before .before .before .before .before .loop in
-    let r = c .before .before .before .before .before .before .before .before .before .before .before .run-from .ensures in
-    let w = whole (c .before .before .before .before .before .before .before .before .before .before .before .before .before .before) in (
+    let p = c .before .before .before .before .before .before .before .before .before .before .before .before .before .before .before .before .before .before .before .before .before .before .before .pre in
+    let l = c .before .before .before .before .before .before .before .before .before .before .before .before .before .before .before .loop in
+    let r = c .before .before .before .before .before .before .before .before .before .before .before .before .before .run-from .ensures in
+    let w = whole (c .before .before .before .before .before .before .before .before .before .before .before .before .before .before .before .before) in (
       (p .0, p .1, p .2, l .inv .3 .own .long ∙ p .3, still-wired (p .0) _ _ (p .1) _ (l .part) (l .part) _ (l .wire) (l .wire) (omega (arith, p .4 .long)) _ (p .4) (l .inv .3)),
       (
         r .1,
         r .2,
         w .sums,
-        rw (w .is) (c .before .before .before .before .before .before .before .before .run-table .ensures .2),
-        rw (w .is) (offsets-are (p .0) _ _ _ _ (listed (c .before .before .before .before .before .before .before .before .before .before .before .before .before .before .before)) (inside (c .before .before .before .before .before .before .before .before .before .before .before)) _ _ (c .before .before .before .before .before .offsets .ensures) (c .before .before .before .offsets2 .ensures)),
+        rw (w .is) (c .before .before .before .before .before .before .before .before .before .before .run-table .ensures .2),
+        rw (w .is) (offsets-are (p .0) _ _ _ _ (listed (c .before .before .before .before .before .before .before .before .before .before .before .before .before .before .before .before .before)) (inside (c .before .before .before .before .before .before .before .before .before .before .before .before .before)) _ _ (omega (arith, c .before .before .before .before .before .before .before .offsets .ensures .0, r .1)) (omega (arith, c .before .before .before .before .before .offsets2 .ensures .0, r .1)) (c .before .before .before .before .before .before .before .offsets .ensures .1) (c .before .before .before .before .before .offsets2 .ensures .1)),
       ),
     )
 
+slice-aggregate-batches-on-wire-2 : tie.Need-slice-aggregate-batches-on-wire-2 Inv-loop μ-loop
+slice-aggregate-batches-on-wire-2 c = sym (c .before .before .before .before .offsets .ensures .0)
+
+slice-aggregate-batches-on-wire-3 : tie.Need-slice-aggregate-batches-on-wire-3 Inv-loop μ-loop
+slice-aggregate-batches-on-wire-3 c = sym (c .before .before .before .offsets2 .ensures .0)
+
 add-first : tie.Need-add-first Inv-loop μ-loop
-add-first c = omega (arith, c .before .before .before .before .before .before .before .before .before .before .before .before .before .before .before .before .run-from .ensures .2, whole (c .before .before .before .before .before .before .before .before .before .before .before .before .before .before .before .before .before .before .before) .few)
+add-first c = omega (arith, c .before .before .before .before .before .before .before .before .before .before .before .before .before .before .before .before .before .before .run-from .ensures .2, whole (c .before .before .before .before .before .before .before .before .before .before .before .before .before .before .before .before .before .before .before .before .before) .few)
 
 loop-less : tie.Need-loop-less Inv-loop μ-loop
-loop-less c = omega (arith, c .before .before .before .before .before .before .before .before .before .before .before .before .before .before .before .before .run-from .ensures .0, c .before .before .before .before .before .before .before .before .before .before .before .before .before .before .before .before .before .loop-test .taken)
+loop-less c = omega (arith, c .before .before .before .before .before .before .before .before .before .before .before .before .before .before .before .before .before .before .run-from .ensures .0, c .before .before .before .before .before .before .before .before .before .before .before .before .before .before .before .before .before .before .before .loop-test .taken)
 
 loop-again : tie.Need-loop-again Inv-loop μ-loop
 loop-again c =
-    let p = c .before .before .before .before .before .before .before .before .before .before .before .before .before .before .before .before .before .before .before .before .before .before .before .before .before .before .pre in
-    let a = c .before .before .before .before .before .before .before .before .before .before .before .before .before .before .before .before .before .before .before .before .before .before .before .before .before .before .args in
-    let l = c .before .before .before .before .before .before .before .before .before .before .before .before .before .before .before .before .before .before .loop in
-    let m = c .before .before .before .before .before .before .before .before .before .before .before .before .before .run-table .ensures in (
-      c .before .before .before .before .before .before .before .before .before .before .before .before .before .before .before .before .run-from .ensures .2,
+    let p = c .before .before .before .before .before .before .before .before .before .before .before .before .before .before .before .before .before .before .before .before .before .before .before .before .before .before .before .before .pre in
+    let a = c .before .before .before .before .before .before .before .before .before .before .before .before .before .before .before .before .before .before .before .before .before .before .before .before .before .before .before .before .args in
+    let l = c .before .before .before .before .before .before .before .before .before .before .before .before .before .before .before .before .before .before .before .before .loop in
+    let m = c .before .before .before .before .before .before .before .before .before .before .before .before .before .before .before .run-table .ensures in (
+      c .before .before .before .before .before .before .before .before .before .before .before .before .before .before .before .before .before .before .run-from .ensures .2,
       m .0,
       m .1,
-      on-wire-run (p .0) _ _ (p .1) _ _ _ _ _ _ (omega (arith, p .4 .long)) (l .first) (c .before .before .before .before .before .before .before .before .before .before .before .before .before .before .before .before .run-from .result) (a .g .batches) (c .before .before .before .before .before .before .before .before .before .before .before .before .before .before .before .before .before .before .before .class-size .result) (whole (c .before .before .before .before .before .before .before .before .before .before .before .before .before .before .before .before .before .before .before) .sums) (l .inv .3) (c .before .before .before .before .batches-on-wire .ensures),
+      on-wire-run (p .0) _ _ (p .1) _ _ _ _ _ _ (omega (arith, p .4 .long)) (l .first) (c .before .before .before .before .before .before .before .before .before .before .before .before .before .before .before .before .before .before .run-from .result) (a .g .batches) (c .before .before .before .before .before .before .before .before .before .before .before .before .before .before .before .before .before .before .before .before .before .class-size .result) (whole (c .before .before .before .before .before .before .before .before .before .before .before .before .before .before .before .before .before .before .before .before .before) .sums) (l .inv .3) (c .before .before .before .before .batches-on-wire .ensures),
     )
 
 same-length : tie.Need-same-length Inv-loop μ-loop
@@ -141,6 +147,8 @@ first-on-wire-spec =
     slice-aggregate-offsets-2
     offsets-requires-2
     slice-aggregate-batches-on-wire
+    slice-aggregate-batches-on-wire-2
+    slice-aggregate-batches-on-wire-3
     batches-on-wire-requires
     add-first
     loop-less

@@ -63,7 +63,7 @@ loop-again c =
     (omega arith, simp length-set (l .inv .1), stored-more (λ k x. x ≡ placeAt (a .g .shape) (a .dead .now) (a .u) (a .which) (getD (a .class .now) (a .first + k) 0)) (l .out) (l .t) _ 0 (omega (arith, l .inv .1, c .before .before .before .before .before .before .pre .3)) (l .inv .2) (c .place .ensures .1))
 
 returns : tie.Need-returns Inv-loop μ-loop
-returns c = let l = c .before .loop in λ t h. l .inv .2 t (omega arith)
+returns c = let l = c .before .loop in (l .inv .1, λ t h. l .inv .2 t (omega arith))
 
 pub offsets-spec : {M : Type 1} → statement M
 offsets-spec =
