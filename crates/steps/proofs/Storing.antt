@@ -1,30 +1,27 @@
--- The places of a rank's sums: no two are one; and the loops that store at them.
-use mathlib.Core.Path.{_≡_, refl, sym, ap, ap₂, _∙_}
-use mathlib.Core.Logic.{_≢_, _⊎_, inl, inr}
+-- The places of a rank's sums: no two are one.
+use mathlib.Core.Path.{_≡_, refl, sym, ap, _∙_}
 use mathlib.Core.Bool.{cond}
 use mathlib.Core.List.{List}
 use Prim.Native.Nat.{ℕ, zero, suc, _+_, _*_, _-_, _/_, _%_, _^_, _<_}
 use native.Mathlib.Decide.{decLt}
-use native.Mathlib.Nat.{mul-comm, div-add-mod, div-add-mod'}
+use native.Mathlib.Nat.{mul-comm}
 use native.Mathlib.Omega.{arith}
 use borrow.Author.Tests.{lt-ltb, le-ltb, eq-eqb}
 use lib.Arith.{digits-div, digits-mod}
 use lib.Bits.{bitXor, xor-zero-l}
-use lib.ListN.{length, getD, set, length-set}
-use lib.Seq.{getD-set-same, getD-set-other}
+use lib.ListN.{length}
 use Rattle.lists.specs.Digits.{flip}
 use Rattle.lists.proofs.Flips.{flip-flip}
 use Rattle.field.specs.Residues.{minus}
 use Rattle.shape.specs.declared.Shape.{Shape}
 use Rattle.code.specs.Code.{Code}
-use Rattle.classes.specs.Classes.{batch, top, node, classOf, rankClass, partner, turningRank, placeOf, Sum, sumAt, sumPlace, placeAt, messageSize}
+use Rattle.classes.specs.Classes.{batch, top, node, classOf, rankClass, partner, turningRank, placeOf, Sum, sumAt, sumPlace, messageSize}
 use Rattle.steps.specs.Storing.{sumSymbol, Crossed}
 use Rattle.classes.proofs.Sizes.{batch-pos, parts}
 use Rattle.classes.proofs.Ranks.{partner-lt}
 use Rattle.classes.proofs.Dead.{Dead, flip-node-lt}
 use Rattle.classes.proofs.Turns.{class-turns}
 use Rattle.classes.proofs.Sums.{sumAt-lt}
-use Rattle.classes.proofs.Passes.{Here}
 
 -- ---- places
 
@@ -121,93 +118,3 @@ crossed-sums c {s} {dead} D u which f g S T e C = record {
   each = λ b a Q. C .each b a Q ∙ ap (λ z. minus (c .modulus) z (sumSymbol s dead u (1 - which) b a S)) (e (sumAt s dead u b a) (sumAt-lt D u b a Q));
   rest = C .rest;
 }
-
--- ---- loops over the places of all batches' layers 0
-
--- a sum below e + 1 is below e, or at e
-upto : (P b a e : ℕ) → a < P → b * P + a < e + 1 → (b * P + a < e) ⊎ ((b ≡ e / P) × (a ≡ e % P))
-upto P b a e h l = go (decLt (b * P + a) e)
-  where
-    go : Dec (b * P + a < e) → (b * P + a < e) ⊎ ((b ≡ e / P) × (a ≡ e % P))
-    go (yes m) = inl m
-    go (no m) =
-        let q : b * P + a ≡ e = omega arith in
-        inr (sym (digits-div b h) ∙ ap (λ z. z / P) q, sym (digits-mod b h) ∙ ap (λ z. z % P) q)
-
-at-place : (s : Shape) (dead : List ℕ) (u which e : ℕ) → placeAt s dead u which e ≡ sumPlace s dead u which (e / 2 ^ s .n) (e % 2 ^ s .n)
-unfolding placeAt
-at-place s dead u which e = refl
-
-symbol-is : (s : Shape) (dead : List ℕ) (u which b a : ℕ) (symbols : List ℕ) → sumSymbol s dead u which b a symbols ≡ getD symbols (sumPlace s dead u which b a) 0
-unfolding sumSymbol
-symbol-is s dead u which b a symbols = refl
-
--- the own pairs of the sums below e are stored
-pub record Pairing (s : Shape) (dead : List ℕ) (u : ℕ) (f : ℕ → ℕ → ℕ) (e : ℕ) (now : List ℕ) : Type 0 where
-  pub each : (which b a : ℕ) → which < 2 → Sum s dead u b a → b * 2 ^ s .n + a < e → getD now (sumPlace s dead u which b a) 0 ≡ f (sumAt s dead u b a) which
-
-module _ {s : Shape} {dead : List ℕ} (D : Dead s dead) (u : ℕ) (l : u < length dead) where
-  abbrev P : ℕ
-  P = 2 ^ s .n
-
-  -- e is no sum of the rank
-  passed-by : (b a e : ℕ) → Sum s dead u b a → (classOf dead (e % P) ≡ rankClass dead u → ⊥) → b * P + a < e + 1 → b * P + a < e
-  passed-by b a e S d h = go (upto P b a e (S .below) h)
-    where
-      go : (b * P + a < e) ⊎ ((b ≡ e / P) × (a ≡ e % P)) → b * P + a < e
-      go (inl m) = m
-      go (inr m) = absurd (d (ap (classOf dead) (sym (m .1)) ∙ S .inside))
-
-  -- e is a sum of the rank, and no earlier one
-  not-before : (b a e : ℕ) → b * P + a < e → (b ≡ e / P) × (a ≡ e % P) → ⊥
-  not-before b a e h m = omega (arith, div-add-mod' e P, ap₂ (λ x y. x * P + y) (m .0) (m .1))
-
-  pub pairing-none : (f : ℕ → ℕ → ℕ) (now : List ℕ) → Pairing s dead u f 0 now
-  pairing-none f now = record { each = λ which b a w S h. absurd (omega arith) }
-
-  pub pairing-skip : (f : ℕ → ℕ → ℕ) (e : ℕ) (now : List ℕ) → Pairing s dead u f e now → (classOf dead (e % P) ≡ rankClass dead u → ⊥) → Pairing s dead u f (e + 1) now
-  pairing-skip f e now A d = record { each = λ which b a w S h. A .each which b a w S (passed-by b a e S d h) }
-
-  pub pairing-more : (f : ℕ → ℕ → ℕ) (e x v w : ℕ) (now : List ℕ) → Here s dead u e x → Pairing s dead u f e now
-      → placeAt s dead u 0 e < length now → placeAt s dead u 1 e < length now → v ≡ f x 0 → w ≡ f x 1
-      → Pairing s dead u f (e + 1) (set (set now (placeAt s dead u 0 e) v) (placeAt s dead u 1 e) w)
-  pairing-more f e x v w now H A room room′ q q′ = record { each = λ which b a k S h. go which b a k S (upto P b a e (S .below) h) }
-    where
-      one : ℕ
-      one = placeAt s dead u 0 e
-
-      other : ℕ
-      other = placeAt s dead u 1 e
-
-      then : List ℕ
-      then = set (set now one v) other w
-
-      apart : one ≢ other
-      apart z = first-other D u l _ _ _ _ (H .sum) (H .sum) (sym (at-place s dead u 0 e) ∙ z ∙ at-place s dead u 1 e)
-
-      at : (which : ℕ) → which < 2 → getD then (placeAt s dead u which e) 0 ≡ f x which
-      at zero k = getD-set-other (set now one v) other one w 0 apart ∙ getD-set-same now one v 0 room ∙ q
-      at (suc zero) k = getD-set-same (set now one v) other w 0 (rw (length-set now one v) room′) ∙ q′
-      at (suc (suc which)) k = absurd (omega arith)
-
-      kept : (which b a : ℕ) → which < 2 → Sum s dead u b a → b * P + a < e
-          → getD then (sumPlace s dead u which b a) 0 ≡ getD now (sumPlace s dead u which b a) 0
-      kept which b a k S h =
-          getD-set-other (set now one v) other (sumPlace s dead u which b a) w 0 (away which 1 k (omega arith))
-          ∙ getD-set-other now one (sumPlace s dead u which b a) v 0 (away which 0 k (omega arith))
-        where
-          away : (which it : ℕ) → which < 2 → it < 2 → sumPlace s dead u which b a ≢ placeAt s dead u it e
-          away zero zero k k′ z = not-before b a e h (firsts-own D u l _ _ _ _ S (H .sum) (z ∙ at-place s dead u 0 e))
-          away zero (suc zero) k k′ z = first-other D u l _ _ _ _ S (H .sum) (z ∙ at-place s dead u 1 e)
-          away (suc zero) zero k k′ z = first-other D u l _ _ _ _ (H .sum) S (sym (at-place s dead u 0 e) ∙ sym z)
-          away (suc zero) (suc zero) k k′ z = not-before b a e h (others-own D u l _ _ _ _ S (H .sum) (z ∙ at-place s dead u 1 e))
-          away (suc (suc which)) it k k′ z = omega arith
-          away zero (suc (suc it)) k k′ z = omega arith
-          away (suc zero) (suc (suc it)) k k′ z = omega arith
-
-      go : (which b a : ℕ) → which < 2 → Sum s dead u b a → (b * P + a < e) ⊎ ((b ≡ e / P) × (a ≡ e % P))
-          → getD then (sumPlace s dead u which b a) 0 ≡ f (sumAt s dead u b a) which
-      go which b a k S (inl h) = kept which b a k S h ∙ A .each which b a k S h
-      go which b a k S (inr h) =
-          ap₂ (λ y z. getD then (sumPlace s dead u which y z) 0) (h .0) (h .1) ∙ ap (λ y. getD then y 0) (sym (at-place s dead u which e)) ∙ at which k
-          ∙ ap (λ y. f y which) (sym (ap₂ (sumAt s dead u) (h .0) (h .1) ∙ H .number))
