@@ -1,6 +1,6 @@
 -- Laws of parts of buffers, of what a new node stores and gets from the others, lowest first.
 pub mod Parts
-pub mod Batch
+pub mod Pieces
 pub mod Storing
 pub mod Turned
 pub mod Providers

@@ -33,9 +33,10 @@ use Rattle.classes.proofs.Layouts.{ready-dead, bounded, placed, share-high}
 use Rattle.classes.proofs.Passes.{messageAt, message-table, spot-number}
 use Rattle.classes.proofs.Members.{member-is, member-sum, members-few}
 use Rattle.steps.specs.Storing.{sumSymbol, Paired, Crossed}
-use Rattle.steps.specs.Batch.{turned, Apart, addedIn, PairedIn, leftIn, Stored}
+use Rattle.batches.specs.Batches.{turned, Apart, addedIn, PairedIn, leftIn, Stored}
 use Rattle.steps.proofs.Parts.{row-within}
-use Rattle.steps.proofs.Batch.{turned-is, turned-none, Pieces}
+use Rattle.batches.proofs.Batches.{turned-is, turned-none}
+use Rattle.steps.proofs.Pieces.{Pieces}
 use Rattle.steps.proofs.Storing.{sum-first, sum-other, sums-own, sums-apart}
 
 -- a flip is an exclusive or with the digit's worth

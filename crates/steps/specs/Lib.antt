@@ -1,3 +1,2 @@
 -- What is promised of a message and of a second step: pairs stored, and ranks crossed.
 pub mod Storing
-pub mod Batch

@@ -8,7 +8,7 @@ use Rattle.lists.specs.Lists.{piece}
 use Rattle.code.specs.Code.{narrow}
 use Rattle.classes.proofs.Layouts.{bounded}
 use Rattle.steps.proofs.Parts.{piece-part}
-use Rattle.steps.proofs.Batch.{Pieces, pieces-none, pieces-more}
+use Rattle.steps.proofs.Pieces.{Pieces, pieces-none, pieces-more}
 use Rattle.steps.proofs.Turned.{BatchCrossed, turn-high, Tabled, tabled, Room, room, blocks-are, apart-by, crossed-done}
 use borrow.Author.Needs.{needs}
 use Rattle.steps.proofs.cross.Statement.{statement}

@@ -6,11 +6,11 @@ use native.Mathlib.Omega.{arith}
 use lib.ListN.{length, take, drop, length-take, length-drop}
 use Rattle.lists.specs.Lists.{tabulate}
 use Rattle.lists.proofs.Tables.{tabulate-length}
-use Rattle.steps.specs.Batch.{addedIn}
+use Rattle.batches.specs.Batches.{addedIn}
 use Rattle.code.specs.Code.{narrow}
 use Rattle.classes.proofs.Layouts.{bounded}
 use Rattle.steps.proofs.Parts.{piece-part}
-use Rattle.steps.proofs.Batch.{Pieces, pieces-none, pieces-more}
+use Rattle.steps.proofs.Pieces.{Pieces, pieces-none, pieces-more}
 use Rattle.steps.proofs.Turned.{BatchAdded, Tabled, tabled, Room, room, sums-are, apart-other, message-done}
 use borrow.Author.Needs.{needs}
 use Rattle.steps.proofs.message_with.Statement.{statement}

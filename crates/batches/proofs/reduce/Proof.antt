@@ -1,15 +1,15 @@
--- `steps::reduce` meets its contract. Assumes nothing.
+-- `batches::reduce` meets its contract. Assumes nothing.
 use mathlib.Core.Path.{_≡_, refl, ap}
 use Prim.Native.Nat.{_-_, _%_, _≤_}
 use native.Mathlib.Omega.{arith}
 use lib.ListN.{length, getD}
 use Rattle.lists.proofs.Tables.{is-tabulate}
 use Rattle.code.specs.Code.{narrow}
-use Rattle.steps.specs.Batch.{remainder, Stored}
-use Rattle.steps.proofs.Batch.{stored-none, stored-more}
+use Rattle.batches.specs.Batches.{remainder, Stored}
+use Rattle.batches.proofs.Batches.{stored-none, stored-more}
 use borrow.Author.Needs.{needs}
-use Rattle.steps.proofs.reduce.Statement.{statement}
-use Rattle.steps.proofs.reduce.Tie as tie
+use Rattle.batches.proofs.reduce.Statement.{statement}
+use Rattle.batches.proofs.reduce.Tie as tie
 
 abbrev Inv-loop : tie.InvT-loop
 Inv-loop sums₀ q x₀ x-end sums x = (x ≤ x-end) × (x-end ≡ length sums₀) × Stored x (λ i. i) (remainder (narrow .modulus) sums₀) sums₀ sums

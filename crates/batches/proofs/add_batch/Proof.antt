@@ -1,13 +1,13 @@
--- `steps::add_batch` meets its contract: what the folded sums leave is the sums. Assumes nothing.
+-- `batches::add_batch` meets its contract: what the folded sums leave is the sums. Assumes nothing.
 use mathlib.Core.Path.{ap, _∙_}
 use borrow.Author.Needs.{needs}
 use lib.ListN.{length}
 use Rattle.lists.specs.Lists.{tabulate}
 use Rattle.lists.proofs.Tables.{tabulate-ext}
 use Rattle.code.specs.Code.{narrow}
-use Rattle.steps.specs.Batch.{addedIn, remainder}
-use Rattle.steps.proofs.add_batch.Statement.{statement}
-use Rattle.steps.proofs.add_batch.Tie as tie
+use Rattle.batches.specs.Batches.{addedIn, remainder}
+use Rattle.batches.proofs.add_batch.Statement.{statement}
+use Rattle.batches.proofs.add_batch.Tie as tie
 
 returns : tie.Need-returns
 unfolding remainder

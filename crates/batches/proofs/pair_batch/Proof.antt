@@ -1,14 +1,14 @@
--- `steps::pair_batch` meets its contract. Assumes nothing.
+-- `batches::pair_batch` meets its contract. Assumes nothing.
 use mathlib.Core.Path.{_≡_, refl, sym, ap}
 use Prim.Native.Nat.{_+_, _-_, _*_, _≤_, _<_}
 use native.Mathlib.Omega.{arith}
 use lib.Bits.{bitXor}
 use lib.ListN.{length, getD, length-set}
-use Rattle.steps.specs.Batch.{PairedIn}
-use Rattle.steps.proofs.Batch.{turned-is, turned-none, paired-none, paired-more}
+use Rattle.batches.specs.Batches.{PairedIn}
+use Rattle.batches.proofs.Batches.{turned-is, turned-none, paired-none, paired-more}
 use borrow.Author.Needs.{needs}
-use Rattle.steps.proofs.pair_batch.Statement.{statement}
-use Rattle.steps.proofs.pair_batch.Tie as tie
+use Rattle.batches.proofs.pair_batch.Statement.{statement}
+use Rattle.batches.proofs.pair_batch.Tie as tie
 
 abbrev Inv-loop : tie.InvT-loop
 Inv-loop members turn pairs symbols₀ x₀ x-end symbols x =

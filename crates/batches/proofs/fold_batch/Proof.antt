@@ -1,15 +1,15 @@
--- `steps::fold_batch` meets its contract. Assumes nothing.
+-- `batches::fold_batch` meets its contract. Assumes nothing.
 use mathlib.Core.Path.{_≡_, refl, _∙_}
 use Prim.Native.Nat.{_-_, _≤_, _<_}
 use native.Mathlib.Omega.{arith}
 use lib.Bits.{bitXor}
 use lib.ListN.{length, getD, length-set}
 use Rattle.code.specs.Code.{narrow}
-use Rattle.steps.specs.Batch.{addedIn, Remain}
-use Rattle.steps.proofs.Batch.{turned-is, turned-none, remain-none, remain-more}
+use Rattle.batches.specs.Batches.{addedIn, Remain}
+use Rattle.batches.proofs.Batches.{turned-is, turned-none, remain-none, remain-more}
 use borrow.Author.Needs.{needs}
-use Rattle.steps.proofs.fold_batch.Statement.{statement}
-use Rattle.steps.proofs.fold_batch.Tie as tie
+use Rattle.batches.proofs.fold_batch.Statement.{statement}
+use Rattle.batches.proofs.fold_batch.Tie as tie
 
 abbrev Inv-loop : tie.InvT-loop
 Inv-loop members turn symbols sums₀ x₀ x-end sums x =

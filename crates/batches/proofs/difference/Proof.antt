@@ -1,9 +1,9 @@
--- `steps::difference` meets its contract: a multiple of the modulus more leaves the same. Assumes nothing.
+-- `batches::difference` meets its contract: a multiple of the modulus more leaves the same. Assumes nothing.
 use native.Mathlib.Omega.{arith}
 use borrow.Author.Needs.{needs}
 use Rattle.field.specs.Residues.{minus}
-use Rattle.steps.proofs.difference.Statement.{statement}
-use Rattle.steps.proofs.difference.Tie as tie
+use Rattle.batches.proofs.difference.Statement.{statement}
+use Rattle.batches.proofs.difference.Tie as tie
 
 returns : tie.Need-returns
 unfolding minus

@@ -1,4 +1,4 @@
--- `steps::cross_batch` meets its contract. Assumes nothing.
+-- `batches::cross_batch` meets its contract. Assumes nothing.
 use mathlib.Core.Path.{_≡_, refl, sym, ap, _∙_}
 use Prim.Native.Nat.{_-_, _≤_, _<_}
 use native.Mathlib.Omega.{arith}
@@ -6,11 +6,11 @@ use lib.Bits.{bitXor}
 use lib.ListN.{length, getD}
 use Rattle.code.specs.Code.{narrow}
 use Rattle.field.specs.Residues.{minus}
-use Rattle.steps.specs.Batch.{turned, leftIn, Stored}
-use Rattle.steps.proofs.Batch.{turned-is, stored-none, stored-more}
+use Rattle.batches.specs.Batches.{turned, leftIn, Stored}
+use Rattle.batches.proofs.Batches.{turned-is, stored-none, stored-more}
 use borrow.Author.Needs.{needs}
-use Rattle.steps.proofs.cross_batch.Statement.{statement}
-use Rattle.steps.proofs.cross_batch.Tie as tie
+use Rattle.batches.proofs.cross_batch.Statement.{statement}
+use Rattle.batches.proofs.cross_batch.Tie as tie
 
 abbrev Inv-loop : tie.InvT-loop
 Inv-loop members near far sums symbols₀ x₀ x-end symbols x =

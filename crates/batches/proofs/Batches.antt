@@ -1,17 +1,14 @@
--- The loops over the members of a class in the symbols of one batch, and over the batches.
+-- The loops over the members of a class in the symbols of one batch.
 use mathlib.Core.Path.{_≡_, refl, sym, ap, _∙_}
 use mathlib.Core.Logic.{_≢_, _⊎_, inl, inr}
 use mathlib.Core.List.{List}
-use Prim.Native.Nat.{ℕ, _+_, _*_, _-_, _%_, _≤_, _<_}
+use Prim.Native.Nat.{ℕ, _+_, _*_, _%_, _≤_, _<_}
 use native.Mathlib.Omega.{arith}
-use borrow.Rule.Slice.PartMut.{putMid}
 use lib.Bits.{bitXor, xor-zero-r}
 use lib.ListN.{length, getD, set, length-set}
 use lib.Seq.{getD-set-same, getD-set-other}
-use Rattle.lists.specs.Lists.{piece}
 use Rattle.lists.proofs.Tests.{below-or-not}
-use Rattle.steps.specs.Batch.{turned, Apart, Remain, PairedIn, Stored}
-use Rattle.steps.proofs.Parts.{put-piece, put-other, put-piece-length}
+use Rattle.batches.specs.Batches.{turned, Apart, Remain, PairedIn, Stored}
 
 pub turned-is : (members : List ℕ) (turn x : ℕ) → turned members turn x ≡ bitXor (getD members x 0) turn
 unfolding turned
@@ -22,7 +19,7 @@ unfolding turned
 turned-none members x = xor-zero-r (getD members x 0)
 
 -- x below n + 1 is below n, or n
-upto : (x n : ℕ) → x < n + 1 → (x < n) ⊎ (x ≡ n)
+pub upto : (x n : ℕ) → x < n + 1 → (x < n) ⊎ (x ≡ n)
 upto x n h = go (below-or-not x n)
   where
     go : (x < n) ⊎ (n ≤ x) → (x < n) ⊎ (x ≡ n)
@@ -89,25 +86,3 @@ module _ (members : List ℕ) (turn : ℕ) (pairs : List ℕ) where
           ∙ A .other x h
       other′ x (inr h) =
           ap (λ z. getD then z 0) (ap (turned members turn) h ∙ sym e) ∙ getD-set-same (set now s v) t w 0 t-low ∙ g ∙ ap (λ z. getD pairs (z * 2 + 1) 0) (sym h)
-
--- of n pieces of m elements, the first b are as P says, and the others as they were
-pub record Pieces (n m : ℕ) (P : ℕ → List ℕ → List ℕ → Type 0) (b : ℕ) (old now : List ℕ) : Type 0 where
-  pub long : length now ≡ length old
-  pub done : (i : ℕ) → i < b → P i (piece m i old) (piece m i now)
-  pub left : (i : ℕ) → b ≤ i → i < n → piece m i now ≡ piece m i old
-
-module _ (n m : ℕ) (P : ℕ → List ℕ → List ℕ → Type 0) (old : List ℕ) where
-  pub pieces-none : Pieces n m P 0 old old
-  pieces-none = record { long = refl; done = λ i h. absurd (omega arith); left = λ i h l. refl }
-
-  pub pieces-more : (b : ℕ) (now p : List ℕ) → length old ≡ n * m → b < n → Pieces n m P b old now → P b (piece m b now) p → length p ≡ m
-      → Pieces n m P (b + 1) old (putMid (b * m) (b * m + m - b * m) now p)
-  pieces-more b now p all h A q long = record {
-    long = put-piece-length n m b now p h (A .long ∙ all) long ∙ A .long;
-    done = λ i l. go i (upto i b l);
-    left = λ i l k. put-other n m b now p h (A .long ∙ all) long i k (λ z. omega arith) ∙ A .left i (omega arith) k;
-  }
-    where
-      go : (i : ℕ) → (i < b) ⊎ (i ≡ b) → P i (piece m i old) (piece m i (putMid (b * m) (b * m + m - b * m) now p))
-      go i (inl l) = rw (put-other n m b now p h (A .long ∙ all) long i (omega arith) (λ z. omega arith)) (A .done i l)
-      go i (inr e) = rw (e, put-piece n m b now p h (A .long ∙ all) long, ← (A .left b (omega arith) h)) q

@@ -1,0 +1,2 @@
+-- The symbols of one batch.
+pub mod Batches
