@@ -78,12 +78,6 @@ placed {dead} {g} R w b a h k l =
 pub node-high : {dead : List ℕ} {g : Layout} → Ready dead g → (u : ℕ) → u < length dead → (node dead u < g .shape .n) × (node dead u < mostNodes)
 node-high R u h = let l = node-below (ready-dead R) u h in (l, omega (arith, bounded R .n-high))
 
--- what a loop counts to
-pub count-high : {dead : List ℕ} {g : Layout} → Ready dead g → g .batches * g .places ≤ mostLayers * 2 ^ mostNodes
-count-high {dead} {g} R =
-    let b = bounded R in
-    omega (arith, b .size-is, b .size-high, mul-le-mul {n₁ = g .batches * 1} {m₁ = g .places} {n₂ = g .batches * g .batch} {m₂ = g .places} (mul-le-mul-left (g .batches) (b .batch-low)) (omega arith))
-
 pub share-high : {dead : List ℕ} {g : Layout} → Ready dead g → messageSize (g .shape) dead ≤ mostLayers * 2 ^ mostNodes
 unfolding messageSize
 share-high {dead} {g} R = le-trans (div-le-self (size (g .shape)) (length dead + 1)) (bounded R .size-high)

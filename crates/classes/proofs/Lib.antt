@@ -9,7 +9,7 @@ pub mod Adding
 pub mod FirstStep
 pub mod SecondStep
 pub mod Layouts
-pub mod Passes
+pub mod Messages
 pub mod Members
 pub mod Placing
 pub mod Wire

@@ -15,7 +15,7 @@ use Rattle.classes.specs.Layout.{Fronted}
 use Rattle.classes.proofs.Dead.{Dead}
 use Rattle.classes.proofs.Counts.{members-size}
 use Rattle.classes.proofs.Sums.{member-found, member-at, sumAt-is}
-use Rattle.classes.proofs.Passes.{spot-number}
+use Rattle.classes.proofs.Messages.{spot-number}
 
 module _ (dead : List ℕ) (c : ℕ) where
   pub members-none : length (members dead c 0) ≡ 0

@@ -12,7 +12,7 @@ ghost use lib.ListN.{length};
 ghost use Rattle.lists.specs.Digits.{bit};
 ghost use Rattle.shape.specs.Shape.{mostNodes, size};
 ghost use Rattle.shape.specs.Refusals.{shapeBad};
-ghost use Rattle.classes.specs.Classes.{batch, top, classOf, rankClass, inClass, members};
+ghost use Rattle.classes.specs.Classes.{batch, top, node, classOf, rankClass, partner, members};
 ghost use Rattle.classes.specs.Steps.{place};
 ghost use Rattle.classes.specs.Layout.{Ready, Fronted, Listed};
 ghost use Rattle.lists.specs.Lists.{member, position, rising};
@@ -75,6 +75,31 @@ pub fn rank_class(g: Layout, dead: &[usize], u: usize) -> usize
     }
 }
 
+// The table's column "partner layer".
+fn partner(g: Layout, dead: &[usize], u: usize) -> usize
+    requires { ⌜ (Ready (now dead) g) × (u < length (now dead)) ⌝ }
+    ensures { λ r. ⌜ r ≡ partner (now (dead .entry)) u ⌝ }
+{
+    let batch = g.batch;
+    let top = g.top;
+    if u / batch < top {
+        u % batch
+    } else {
+        u % batch + 1
+    }
+}
+
+// What turns the first place of each sum of rank u into its other one, within a batch: the bit of node i_u, and above the bits of a the
+// partner layer.
+pub fn turn_of(g: Layout, dead: &[usize], u: usize) -> usize
+    requires { ⌜ (Ready (now dead) g) × (u < length (now dead)) ⌝ }
+    ensures { λ r. ⌜ r ≡ partner (now (dead .entry)) u * 2 ^ g .shape .n + 2 ^ node (now (dead .entry)) u ⌝ }
+{
+    let places = g.places;
+    let node = dead[u];
+    partner(g, dead, u) * places + two_to(node)
+}
+
 // What a repair works with, once its causes 1 to 3 are judged: N/(h+1) is worked out here and not before.
 pub fn laid_out(s: Shape, dead: &[usize]) -> Layout
     requires { ⌜ (shapeBad s ≡ false) × (rising 0 (s .n) (now dead) ≡ true) × (1 ≤ length (now dead)) × (length (now dead) < s .n) × (s .layers % batch (now dead) ≡ 0) ⌝ }
@@ -94,34 +119,6 @@ pub fn laid_out(s: Shape, dead: &[usize]) -> Layout
         top: (h + 1) / batch - 1,
         share,
     }
-}
-
-// The batch of place e, where e counts the places of all batches' layers 0. 2^n is a divisor that the compiler does not know, and a
-// shift is fast.
-pub fn batch_at(g: Layout, dead: &[usize], e: usize) -> usize
-    requires { ⌜ Ready (now dead) g ⌝ }
-    ensures { λ r. ⌜ r ≡ e / g .places ⌝ }
-{
-    let s = g.shape;
-    let n = s.n;
-    e >> n
-}
-
-// The a of place e of all batches' layers 0.
-pub fn a_at(g: Layout, dead: &[usize], e: usize) -> usize
-    requires { ⌜ Ready (now dead) g ⌝ }
-    ensures { λ r. ⌜ r ≡ e % g .places ⌝ }
-{
-    let places = g.places;
-    e - batch_at(g, dead, e) * places
-}
-
-// Whether the a at e has class c.
-pub fn of_class(g: Layout, dead: &[usize], c: usize, e: usize) -> bool
-    requires { ⌜ Ready (now dead) g ⌝ }
-    ensures { λ r. ⌜ r ≡ inClass (now (dead .entry)) c (e % 2 ^ g .shape .n) ⌝ }
-{
-    class_of(g, dead, a_at(g, dead, e)) == c
 }
 
 // How many a are of a class.

@@ -26,7 +26,7 @@ use Rattle.wiring.specs.Wires.{inward, inwards, toRank, Messaged, Wired, Exchan
 use Rattle.classes.proofs.Dead.{Dead, Accepted, dead-of}
 use Rattle.classes.proofs.FirstStep.{exchange-length}
 use Rattle.classes.proofs.Wire.{helpers-at}
-use Rattle.classes.proofs.Passes.{messageAt, message-table}
+use Rattle.classes.proofs.Messages.{messageAt, message-table}
 use Rattle.solving.proofs.Sending.{other-is}
 use Rattle.wiring.proofs.OnWire.{helpers-length}
 

@@ -30,7 +30,7 @@ use Rattle.classes.proofs.Ranks.{partner-lt, rankClass-le}
 use Rattle.classes.proofs.Counts.{message-is}
 use Rattle.classes.proofs.Sums.{member-lt, member-at, sumAt-is, sumAt-all}
 use Rattle.classes.proofs.Layouts.{ready-dead, bounded, placed, share-high}
-use Rattle.classes.proofs.Passes.{messageAt, message-table, spot-number}
+use Rattle.classes.proofs.Messages.{messageAt, message-table, spot-number}
 use Rattle.classes.proofs.Members.{member-is, member-sum, members-few}
 use Rattle.steps.specs.Storing.{sumSymbol, Paired, Crossed}
 use Rattle.batches.specs.Batches.{turned, Apart, addedIn, PairedIn, leftIn, Stored}

@@ -8,7 +8,7 @@ use classes::among;
 use classes::class_size;
 use classes::list_members;
 use classes::rank_class;
-use sums::turn_of;
+use classes::turn_of;
 ghost use mathlib.Core.Path.{_≡_};
 ghost use Prim.Native.Nat.{_+_, _-_, _*_, _%_, _≤_, _<_};
 ghost use lib.ListN.{length};

@@ -3,8 +3,8 @@ use mathlib.Core.Path.{_≡_, refl, sym, ap, ap₂, _∙_}
 use mathlib.Core.Bool.{Bool, true, false, cond}
 use mathlib.Core.List.{List}
 use Prim.Native.Nat.{ℕ, zero, suc, _+_, _*_, _^_, _≤_, _<_}
-use native.Mathlib.Nat.{mod-eq-of-lt, div-eq-of-lt, mul-le-mul-right}
 use native.Mathlib.Omega.{arith}
+use lib.Bits.{bitXor}
 use lib.Dec.{eqb}
 use lib.ListN.{length, getD}
 use lib.Seq.{getD-drop}
@@ -16,7 +16,7 @@ use Rattle.shape.proofs.Accepted.{shape-accepted}
 use Rattle.code.specs.Code.{narrow}
 use Rattle.filling.specs.Filling.{InRun, InLayers, Below}
 use Rattle.classes.specs.declared.Layout.{Layout}
-use Rattle.classes.specs.Classes.{batch, node, rankClass, partner, members, placeOf, Sum, spot, sumAt, sumPlace, placeAt, messageSize}
+use Rattle.classes.specs.Classes.{batch, node, rankClass, partner, members, placeOf, Sum, spot, sumAt, sumPlace, messageSize}
 use Rattle.classes.specs.Steps.{ownPairs, exchangeAt}
 use Rattle.classes.specs.Layout.{Ready, Listed}
 use Rattle.classes.proofs.Dead.{Dead}
@@ -24,10 +24,12 @@ use Rattle.classes.proofs.Adding.{joined}
 use Rattle.classes.proofs.FirstStep.{pairs-at}
 use Rattle.classes.proofs.Layouts.{bounded, ready-dead}
 use Rattle.classes.proofs.Sums.{At, sumAt-all, sumAt-lt}
-use Rattle.classes.proofs.Passes.{spot-number}
+use Rattle.classes.proofs.Messages.{spot-number}
 use Rattle.classes.proofs.Members.{member-is, member-sum, member-number}
+use Rattle.batches.proofs.Batches.{turned-is}
 use Rattle.steps.specs.Storing.{sumSymbol, Paired}
 use Rattle.steps.proofs.Storing.{firsts-own, others-own, first-other}
+use Rattle.steps.proofs.Turned.{turnOf, turn-is, turned-place}
 use Rattle.solving.specs.Solving.{slotPlace, handed, own, Places}
 use Rattle.solving.proofs.Puts.{put-none, put-batch, put-run}
 use Rattle.solving.proofs.Sending.{slots-apart, own-pair}
@@ -83,11 +85,26 @@ batch-place : (s : Shape) (dead : List ℕ) (w b a : ℕ) → b * batch dead * 2
 unfolding placeOf
 batch-place s dead w b a = omega arith
 
-pub batch-places : {dead : List ℕ} {g : Layout} → Ready dead g → (u e b a : ℕ) → a < 2 ^ g .shape .n
-    → b * g .batch * g .places + placeAt (g .shape) dead u e a ≡ sumPlace (g .shape) dead u e b a
-unfolding placeAt sumPlace
-batch-places {dead} {g} R u e b a h =
-    rw (R .batch-is, R .places-is, div-eq-of-lt h, mod-eq-of-lt h) (go (eqb e 0))
+-- there is a batch
+pub batches-some : {dead : List ℕ} {g : Layout} → Ready dead g → 0 < g .batches
+batches-some {dead} {g} R = go (g .batches) (bounded R .layers-are) (shape-accepted (g .shape) (R .shaped) .layers-low)
+  where
+    go : (b : ℕ) → b * g .batch ≡ g .shape .layers → 0 < g .shape .layers → 0 < b
+    go zero q l = absurd (omega (arith, q, l))
+    go (suc b) q l = omega arith
+
+-- an a of the class, turned
+pub offset-turned : {dead : List ℕ} {g : Layout} → Ready dead g → (u which x a turn : ℕ) → u < length dead → which < 2 → x < length (members dead (rankClass dead u) (2 ^ g .shape .n))
+    → a ≡ getD (members dead (rankClass dead u) (2 ^ g .shape .n)) x 0 → turn ≡ partner dead u * 2 ^ g .shape .n + 2 ^ node dead u → bitXor a (turn * which) ≡ sumPlace (g .shape) dead u which 0 a
+offset-turned {dead} {g} R u which x a turn l h k e q =
+    rw (e, q ∙ turn-is (g .shape) dead u)
+    (sym (turned-is (members dead (rankClass dead u) (2 ^ g .shape .n)) (turnOf (g .shape) dead u * which) x) ∙ omega (arith, turned-place R u l 0 x (batches-some R) k which h .1))
+
+pub batch-places : {dead : List ℕ} {g : Layout} → Ready dead g → (u e b a : ℕ)
+    → b * g .batch * g .places + sumPlace (g .shape) dead u e 0 a ≡ sumPlace (g .shape) dead u e b a
+unfolding sumPlace
+batch-places {dead} {g} R u e b a =
+    rw (R .batch-is, R .places-is) (go (eqb e 0))
   where
     go : (t : Bool) → b * batch dead * 2 ^ g .shape .n + cond t (placeOf (g .shape) dead 0 0 a) (placeOf (g .shape) dead (partner dead u) 0 (flip (node dead u) a))
         ≡ cond t (placeOf (g .shape) dead 0 b a) (placeOf (g .shape) dead (partner dead u) b (flip (node dead u) a))
@@ -96,7 +113,7 @@ batch-places {dead} {g} R u e b a h =
 
 module _ {dead : List ℕ} {g : Layout} (R : Ready dead g) (u first run : ℕ) (class : List ℕ) (L : Listed dead (rankClass dead u) (g .shape .n) class)
     (room : first + run ≤ length (members dead (rankClass dead u) (2 ^ g .shape .n))) where
-  offset-is : (e b : ℕ) (at : List ℕ) → b < g .batches → ((t : ℕ) → t < run → element at t ≡ placeAt (g .shape) dead u e (getD class (first + t) 0))
+  offset-is : (e b : ℕ) (at : List ℕ) → b < g .batches → ((t : ℕ) → t < run → element at t ≡ sumPlace (g .shape) dead u e 0 (getD class (first + t) 0))
       → (t : ℕ) → t < run → b * g .batch * g .places + element at t ≡ ownPlace (g .shape) dead u e (b * length (members dead (rankClass dead u) (2 ^ g .shape .n)) + first + t)
   offset-is e b at h is t k =
       let c = rankClass dead u in
@@ -104,27 +121,15 @@ module _ {dead : List ℕ} {g : Layout} (R : Ready dead g) (u first run : ℕ) (
       let a = getD (members dead c (2 ^ g .shape .n)) (first + t) 0 in
       let l : first + t < C = omega arith in
       let hb = rw (R .batches-is) at h in
-      ap (λ z. b * g .batch * g .places + z) (is t k ∙ ap (placeAt (g .shape) dead u e) (L .each (first + t) l))
-      ∙ batch-places R u e b a (member-is dead c (2 ^ g .shape .n) (first + t) l .0)
+      ap (λ z. b * g .batch * g .places + z) (is t k ∙ ap (sumPlace (g .shape) dead u e 0) (L .each (first + t) l))
+      ∙ batch-places R u e b a
       ∙ sym (own-place (g .shape) dead u e b a _ (member-sum (g .shape) dead u b (first + t) hb l) (member-number (g .shape) dead u b (first + t) hb l))
       ∙ ap (ownPlace (g .shape) dead u e) (let z : b * C + (first + t) ≡ b * C + first + t = omega arith in z)
 
-  pub offsets-are : (ones others : List ℕ) → run ≤ length ones → run ≤ length others → ((t : ℕ) → t < run → element ones t ≡ placeAt (g .shape) dead u 0 (getD class (first + t) 0))
-      → ((t : ℕ) → t < run → element others t ≡ placeAt (g .shape) dead u 1 (getD class (first + t) 0)) → (b : ℕ) → b < g .batches
+  pub offsets-are : (ones others : List ℕ) → run ≤ length ones → run ≤ length others → ((t : ℕ) → t < run → element ones t ≡ sumPlace (g .shape) dead u 0 0 (getD class (first + t) 0))
+      → ((t : ℕ) → t < run → element others t ≡ sumPlace (g .shape) dead u 1 0 (getD class (first + t) 0)) → (b : ℕ) → b < g .batches
       → Offsets (g .shape) dead u (b * length (members dead (rankClass dead u) (2 ^ g .shape .n)) + first) run (b * g .batch * g .places) ones others
   offsets-are ones others p q f h b l = record { ones-long = p; others-long = q; one = offset-is 0 b ones l f; other = offset-is 1 b others l h }
-
--- a place of layer 0 of batch 0
-pub first-batch : {dead : List ℕ} {g : Layout} → Ready dead g → (a : ℕ) → a < 2 ^ g .shape .n → a < g .batches * g .places
-first-batch {dead} {g} R a h =
-    let s = shape-accepted (g .shape) (R .shaped) in
-    let B = bounded R in
-    let e : 1 ≤ g .batches = go (g .batches) (B .layers-are) (s .layers-low) in
-    omega (arith, R .places-is, mul-le-mul-right (g .places) e)
-  where
-    go : (b : ℕ) → b * g .batch ≡ g .shape .layers → 0 < g .shape .layers → 1 ≤ b
-    go zero q l = absurd (omega (arith, q, l))
-    go (suc b) q l = omega arith
 
 -- ---- one run after the other
 

@@ -3,6 +3,7 @@ use classes::Layout;
 use classes::class_size;
 use classes::members_of;
 use classes::rank_class;
+use classes::turn_of;
 use column::Outcome;
 use rows::RUN;
 use shape::size;
@@ -13,7 +14,6 @@ use solving::run_from;
 use solving::run_table;
 use steps::message_to;
 use steps::recover;
-use sums::place;
 use tables::TABLE;
 ghost use mathlib.Core.Path.{_≡_};
 ghost use mathlib.Core.Bool.{true};
@@ -24,7 +24,7 @@ ghost use Rattle.shape.specs.Shape.{size};
 ghost use Rattle.code.specs.Code.{narrow};
 ghost use Rattle.rows.specs.Rows.{mostPlaces};
 ghost use Rattle.filling.specs.Filling.{InRun, InLayers};
-ghost use Rattle.classes.specs.Classes.{rankClass, members, placeAt, messageSize};
+ghost use Rattle.classes.specs.Classes.{rankClass, members, sumPlace, messageSize};
 ghost use Rattle.classes.specs.Layout.{Ready, Listed};
 ghost use Rattle.classes.specs.Whole.{fromHelpers};
 ghost use Rattle.solving.specs.Solving.{Multiplied};
@@ -82,7 +82,7 @@ pub fn send(
     }
 }
 
-// The first (which = 0) or the other (1) places, in batch 0, of a run of the members of rank u's class.
+// Where the own symbols of a run of sums stand in their batch: at the first places of the sums (which = 0), or at the others (1).
 fn offsets(
     g: Layout,
     dead: &[usize],
@@ -92,12 +92,13 @@ fn offsets(
     first: usize,
     run: usize,
 ) -> [usize; RUN]
-    requires { ⌜ (Ready (now dead) g) × (u < length (now dead)) × (Listed (now dead) (rankClass (now dead) u) (g .shape .n) (now class)) × (run ≤ mostPlaces) × (first + run ≤ length (members (now dead) (rankClass (now dead) u) (2 ^ g .shape .n))) ⌝ }
-    ensures { λ out. ⌜ (length out ≡ mostPlaces) × ((t : ℕ) → t < run → element out t ≡ placeAt (g .shape) (now (dead .entry)) u which (getD (now (class .entry)) (first + t) 0)) ⌝ }
+    requires { ⌜ (Ready (now dead) g) × (u < length (now dead)) × (Listed (now dead) (rankClass (now dead) u) (g .shape .n) (now class)) × (run ≤ mostPlaces) × (first + run ≤ length (members (now dead) (rankClass (now dead) u) (2 ^ g .shape .n))) × (which < 2) ⌝ }
+    ensures { λ out. ⌜ (length out ≡ mostPlaces) × ((t : ℕ) → t < run → element out t ≡ sumPlace (g .shape) (now (dead .entry)) u which 0 (getD (now (class .entry)) (first + t) 0)) ⌝ }
 {
+    let turn = turn_of(g, dead, u) * which;
     let mut out = [0usize; RUN];
     for t in 0..run {
-        out[t] = place(g, dead, u, which, class[first + t] as usize);
+        out[t] = class[first + t] as usize ^ turn;
     }
     out
 }

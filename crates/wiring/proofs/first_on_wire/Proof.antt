@@ -61,13 +61,13 @@ slice-aggregate-offsets : tie.Need-slice-aggregate-offsets Inv-loop μ-loop
 slice-aggregate-offsets c = sym (c .before .before .before .before .before .before .before .before .before .members-of .ensures .long)
 
 offsets-requires : tie.Need-offsets-requires Inv-loop μ-loop
-offsets-requires c κs = let p = c .before .before .before .before .before .before .before .before .before .before .before .before .before .before .before .pre in (p .0, p .1, listed (c .before .before .before .before .before .before .before .before .before), c .before .before .before .before .before .run-from .ensures .1, inside (c .before .before .before .before .before))
+offsets-requires c κs = let p = c .before .before .before .before .before .before .before .before .before .before .before .before .before .before .before .pre in (p .0, p .1, listed (c .before .before .before .before .before .before .before .before .before), c .before .before .before .before .before .run-from .ensures .1, inside (c .before .before .before .before .before), omega arith)
 
 slice-aggregate-offsets-2 : tie.Need-slice-aggregate-offsets-2 Inv-loop μ-loop
 slice-aggregate-offsets-2 c = sym (c .before .before .before .before .before .before .before .before .before .before .before .members-of .ensures .long)
 
 offsets-requires-2 : tie.Need-offsets-requires-2 Inv-loop μ-loop
-offsets-requires-2 c κs = let p = c .before .before .before .before .before .before .before .before .before .before .before .before .before .before .before .before .before .pre in (p .0, p .1, listed (c .before .before .before .before .before .before .before .before .before .before .before), c .before .before .before .before .before .before .before .run-from .ensures .1, inside (c .before .before .before .before .before .before .before))
+offsets-requires-2 c κs = let p = c .before .before .before .before .before .before .before .before .before .before .before .before .before .before .before .before .before .pre in (p .0, p .1, listed (c .before .before .before .before .before .before .before .before .before .before .before), c .before .before .before .before .before .before .before .run-from .ensures .1, inside (c .before .before .before .before .before .before .before), omega arith)
 
 slice-aggregate-batches-on-wire : tie.Need-slice-aggregate-batches-on-wire Inv-loop μ-loop
 slice-aggregate-batches-on-wire c = sym (c .before .before .before .before .before .before .run-table .ensures .0)

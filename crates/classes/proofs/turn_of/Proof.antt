@@ -1,15 +1,15 @@
--- `sums::turn_of` meets its contract: the partner layer and the node's bit, in the numbers of the layout. Assumes nothing.
+-- `classes::turn_of` meets its contract: the partner layer and the node's bit, in the numbers of the layout. Assumes nothing.
 use mathlib.Core.Path.{ap₂}
 use Prim.Native.Nat.{_*_, _+_, _≤_}
 use native.Mathlib.Nat.{mul-le-mul}
 use native.Mathlib.Omega.{arith}
 use borrow.Author.Needs.{needs}
 use lib.Pow.{pow-mono}
 use Rattle.classes.specs.Classes.{node}
 use Rattle.classes.proofs.Layouts.{bounded, node-high}
 use Rattle.classes.proofs.Ranks.{partner-lt}
-use Rattle.sums.proofs.turn_of.Statement.{statement}
-use Rattle.sums.proofs.turn_of.Tie as tie
+use Rattle.classes.proofs.turn_of.Statement.{statement}
+use Rattle.classes.proofs.turn_of.Tie as tie
 
 -- the partner layer's places
 high : (c : tie.After-partner) → let g = c .before .before .before .args .g in c .partner .result * g .places ≤ 12 * 4096

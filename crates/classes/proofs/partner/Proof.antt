@@ -1,12 +1,12 @@
--- `sums::partner` meets its contract: the table of document 01, row by row. Assumes nothing.
+-- `classes::partner` meets its contract: the table of document 01, row by row. Assumes nothing.
 use mathlib.Core.Path.{sym}
 use native.Mathlib.Nat.{mod-lt}
 use native.Mathlib.Omega.{arith}
 use borrow.Author.Tests.{lt-ltb, le-ltb}
 use Rattle.classes.specs.Classes.{partner}
 use Rattle.classes.proofs.Layouts.{bounded}
-use Rattle.sums.proofs.partner.Statement.{statement}
-use Rattle.sums.proofs.partner.Tie as tie
+use Rattle.classes.proofs.partner.Statement.{statement}
+use Rattle.classes.proofs.partner.Tie as tie
 
 div-if1 : tie.Need-div-if1
 div-if1 c = omega (arith, bounded (c .pre .0) .batch-low)
