@@ -8,8 +8,8 @@ use std::thread;
 /// The stack of a thread, in bytes. The buffers stand outside; in them an archive takes 1440 KiB, one node 120 KiB.
 const ROOM: usize = 64 * 1024;
 
-/// No archive is larger. With k = 6 and more, writing and restoring work few multipliers out first; with k = 5 they do
-/// not, and need more stack.
+/// No archive is larger. With k = 6 and more, writing, checking and restoring work few multipliers out first; with k = 5
+/// they do not, and need more stack.
 const SHAPES: [Shape; 3] = [
     Shape { nodes: 12, data: 5, layers: 15 },
     Shape { nodes: 12, data: 6, layers: 15 },
