@@ -15,7 +15,7 @@ ghost use lib.ListN.{length};
 ghost use Rattle.lists.specs.Lists.{element, tabulate};
 ghost use Rattle.shape.specs.Shape.{size};
 ghost use Rattle.classes.specs.Classes.{rankClass, messageSize};
-ghost use Rattle.classes.specs.Steps.{helperMessage, place};
+ghost use Rattle.classes.specs.Steps.{helperMessage, place, contents};
 ghost use Rattle.classes.specs.Layout.{Ready, Fronted};
 ghost use Rattle.steps.specs.Storing.{Paired, sentBy, Crossed, Begun, Recovers};
 ghost use Rattle.code.specs.Code.{narrow};
@@ -68,7 +68,7 @@ pub fn message_to(g: Layout, dead: &[usize], u: usize, symbols: &[u16], message:
     }
 }
 
-// Stores rank u's own pairs at the places of its sums, with a lent table.
+// Stores rank u's own pairs at the places of its sums; the members of the rank's class go to a lent table.
 fn pairs_with(
     g: Layout,
     dead: &[usize],
@@ -78,7 +78,7 @@ fn pairs_with(
     symbols: &mut [u16],
 )
     requires { ⌜ (Ready (now dead) g) × (u < length (now dead)) × (g .places ≤ length (now table)) × (length (now pairs) ≡ 2 * messageSize (g .shape) (now dead)) × (length (now symbols) ≡ size (g .shape)) ⌝ }
-    ensures { λ _. ⌜ Paired (g .shape) (now (dead .entry)) u (now (pairs .entry)) (now (symbols .exit)) ⌝ }
+    ensures { λ _. ⌜ (Paired (g .shape) (now (dead .entry)) u (now (pairs .entry)) (now (symbols .exit))) × (Fronted (now (dead .entry)) (rankClass (now (dead .entry)) u) (g .shape .n) (now (table .exit))) ⌝ }
 {
     list_members(g, dead, rank_class(g, dead, u), table);
     let count = class_size(g, dead);
@@ -97,20 +97,6 @@ fn pairs_with(
             &pairs[from..to],
             &mut symbols[at..end],
         );
-    }
-}
-
-// Stores rank u's own pairs at the places of its sums.
-pub fn store_pairs(g: Layout, dead: &[usize], u: usize, pairs: &[u16], symbols: &mut [u16])
-    requires { ⌜ (Ready (now dead) g) × (u < length (now dead)) × (length (now pairs) ≡ 2 * messageSize (g .shape) (now dead)) × (length (now symbols) ≡ size (g .shape)) ⌝ }
-    ensures { λ _. ⌜ Paired (g .shape) (now (dead .entry)) u (now (pairs .entry)) (now (symbols .exit)) ⌝ }
-{
-    if g.places <= FEW {
-        let mut table = [0u16; FEW];
-        pairs_with(g, dead, u, &mut table, pairs, symbols);
-    } else {
-        let mut table = [0u16; MEMBERS];
-        pairs_with(g, dead, u, &mut table, pairs, symbols);
     }
 }
 
@@ -204,34 +190,36 @@ fn relist(g: Layout, dead: &[usize], held: usize, c: usize, table: &mut [u16])
     list_members(g, dead, c, table);
 }
 
-// The second step of rank v in place. A rank's own class of layer 0 is there before the rank comes: it was filled by a lower one.
+// The second step of rank v in place, with a table of the members of class `held`. A rank's own class of layer 0 is there before the rank comes:
+// it was filled by a lower one.
 fn recover_with(
     g: Layout,
     dead: &[usize],
     v: usize,
+    held: usize,
     table: &mut [u16],
     received: &[u16],
     symbols: &mut [u16],
 )
-    requires { ⌜ (Ready (now dead) g) × (v < length (now dead)) × (g .places ≤ length (now table)) ⌝ }
+    requires { ⌜ (Ready (now dead) g) × (v < length (now dead)) × (g .places ≤ length (now table)) × (Fronted (now dead) held (g .shape .n) (now table)) ⌝ }
     requires { ⌜ (length (now received) ≡ (length (now dead) - 1) * messageSize (g .shape) (now dead)) × (length (now symbols) ≡ size (g .shape)) ⌝ }
     ensures { λ _. ⌜ Recovers narrow (g .shape) (now (dead .entry)) v (now (received .entry)) (now (symbols .entry)) (now (symbols .exit)) ⌝ }
 {
-    list_members(g, dead, 0, table);
+    relist(g, dead, held, 0, table);
     let turning = begin(g, dead, v, table, received, symbols);
-    let mut held = 0;
+    let mut listed = 0;
     for u in 0..dead.len() {
         if (u == v) | (u == turning) {
             continue;
         }
         let class = rank_class(g, dead, u);
-        relist(g, dead, held, class, table);
-        held = class;
+        relist(g, dead, listed, class, table);
+        listed = class;
         cross_from(g, dead, v, u, 1, table, received, symbols);
     }
 }
 
-// The second step of rank v in place.
+// The second step of rank v in place, where its own pairs stand already.
 pub fn recover(g: Layout, dead: &[usize], v: usize, received: &[u16], symbols: &mut [u16])
     requires { ⌜ (Ready (now dead) g) × (v < length (now dead)) ⌝ }
     requires { ⌜ (length (now received) ≡ (length (now dead) - 1) * messageSize (g .shape) (now dead)) × (length (now symbols) ≡ size (g .shape)) ⌝ }
@@ -239,9 +227,52 @@ pub fn recover(g: Layout, dead: &[usize], v: usize, received: &[u16], symbols: &
 {
     if g.places <= FEW {
         let mut table = [0u16; FEW];
-        recover_with(g, dead, v, &mut table, received, symbols);
+        list_members(g, dead, 0, &mut table);
+        recover_with(g, dead, v, 0, &mut table, received, symbols);
     } else {
         let mut table = [0u16; MEMBERS];
-        recover_with(g, dead, v, &mut table, received, symbols);
+        list_members(g, dead, 0, &mut table);
+        recover_with(g, dead, v, 0, &mut table, received, symbols);
+    }
+}
+
+// The whole second step of rank v: the lent table has the members of its own class once its pairs are stored.
+fn second_with(
+    g: Layout,
+    dead: &[usize],
+    v: usize,
+    table: &mut [u16],
+    pairs: &[u16],
+    received: &[u16],
+    symbols: &mut [u16],
+)
+    requires { ⌜ (Ready (now dead) g) × (v < length (now dead)) × (g .places ≤ length (now table)) × (length (now pairs) ≡ 2 * messageSize (g .shape) (now dead)) ⌝ }
+    requires { ⌜ (length (now received) ≡ (length (now dead) - 1) * messageSize (g .shape) (now dead)) × (length (now symbols) ≡ size (g .shape)) ⌝ }
+    ensures { λ _. ⌜ now (symbols .exit) ≡ contents narrow (g .shape) (now (dead .entry)) v (now (pairs .entry)) (now (received .entry)) ⌝ }
+{
+    pairs_with(g, dead, v, table, pairs, symbols);
+    let held = rank_class(g, dead, v);
+    recover_with(g, dead, v, held, table, received, symbols);
+}
+
+// The whole second step of rank v: all its symbols from its own pairs and the messages that it received.
+pub fn second(
+    g: Layout,
+    dead: &[usize],
+    v: usize,
+    pairs: &[u16],
+    received: &[u16],
+    symbols: &mut [u16],
+)
+    requires { ⌜ (Ready (now dead) g) × (v < length (now dead)) × (length (now pairs) ≡ 2 * messageSize (g .shape) (now dead)) ⌝ }
+    requires { ⌜ (length (now received) ≡ (length (now dead) - 1) * messageSize (g .shape) (now dead)) × (length (now symbols) ≡ size (g .shape)) ⌝ }
+    ensures { λ _. ⌜ now (symbols .exit) ≡ contents narrow (g .shape) (now (dead .entry)) v (now (pairs .entry)) (now (received .entry)) ⌝ }
+{
+    if g.places <= FEW {
+        let mut table = [0u16; FEW];
+        second_with(g, dead, v, &mut table, pairs, received, symbols);
+    } else {
+        let mut table = [0u16; MEMBERS];
+        second_with(g, dead, v, &mut table, pairs, received, symbols);
     }
 }

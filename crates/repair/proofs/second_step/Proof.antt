@@ -30,27 +30,21 @@ laid-out-requires c κs = lists-ready _ _ _ _ (known c .listed)
 rank-of-requires : tie.Need-rank-of-requires
 rank-of-requires c κs = (c .laid-out .ensures .1, known (c .before) .new-dead)
 
-store-pairs-requires : tie.Need-store-pairs-requires
-store-pairs-requires c κs =
+second-requires : tie.Need-second-requires
+second-requires c κs =
     let k = known (c .before .before .before) in
     let g = c .before .before .laid-out .ensures in
-    (g .1, c .before .rank-of .ensures .0, rw (g .0) (k .pairs-long), rw (g .0) (k .due))
-
-recover-requires : tie.Need-recover-requires
-recover-requires c κs =
-    let k = known (c .before .before .before .before .before .before .before) in
-    let g = c .before .before .before .before .before .before .laid-out .ensures in
-    ((g .1, c .before .before .before .before .before .rank-of .ensures .0), (rw (g .0) (k .received-long), c .before .before .before .store-pairs .ensures .long))
+    ((g .1, c .before .rank-of .ensures .0, rw (g .0) (k .pairs-long)), (rw (g .0) (k .received-long), rw (g .0) (k .due)))
 
 returns-2 : tie.Need-returns-2
 returns-2 c =
-    let e = none (c .before .before .before .before .before .before .before .before .before .before) in
-    let a = c .before .before .before .before .before .before .before .before .before .before .before .before .before .before .before .before .before .before .args in
+    let e = none (c .before .before .before .before .before .before) in
+    let a = c .before .before .before .before .before .before .before .before .before .before .before .before .before .before .args in
     record {
       number = sym e;
       symbols =
-          c .before .before .recover .ensures .whole _ (c .before .before .before .before .before .before .store-pairs .ensures)
-          ∙ ap₂ (λ s u. contents narrow s (a .dead .now) u (a .pairs .now) (a .received .now)) (c .before .before .before .before .before .before .before .before .before .laid-out .ensures .0) (c .before .before .before .before .before .before .before .before .rank-of .ensures .1)
+          c .before .before .second .ensures
+          ∙ ap₂ (λ s u. contents narrow s (a .dead .now) u (a .pairs .now) (a .received .now)) (c .before .before .before .before .before .laid-out .ensures .0) (c .before .before .before .before .rank-of .ensures .1)
           ∙ sym (afterwards-done _ _ _ e);
     }
 
@@ -64,7 +58,6 @@ second-step-spec =
     returns
     laid-out-requires
     rank-of-requires
-    store-pairs-requires
-    recover-requires
+    second-requires
     (λ c. search needs)
     returns-2)

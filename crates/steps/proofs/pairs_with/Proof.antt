@@ -124,8 +124,10 @@ returns : tie.Need-returns Inv-loop μ-loop
 returns c =
     let st = c .before .before .before .before .before .before .before .before .before .before .before .before .before .before in
     let l = c .before .loop in
-    let e : l .b ≡ st .args .g .batches = omega arith in
-    paired-done (st .pre .0) _ (st .pre .1) _ _ _ (known (c .before)) _ (st .args .symbols .now) (l .symbols) (l .inv .1 .long ∙ st .pre .4) (rw e at (l .inv .1))
+    let e : l .b ≡ st .args .g .batches = omega arith in (
+      paired-done (st .pre .0) _ (st .pre .1) _ _ _ (known (c .before)) _ (st .args .symbols .now) (l .symbols) (l .inv .1 .long ∙ st .pre .4) (rw e at (l .inv .1)),
+      rw (c .before .before .before .before .before .before .before .before .before .rank-class .ensures) at (c .before .before .before .before .before .before .before .list-members .ensures),
+    )
 
 pub pairs-with-spec : {M : Type 1} → statement M
 pairs-with-spec =

@@ -16,23 +16,23 @@ use Rattle.steps.proofs.recover_with.Statement.{statement}
 use Rattle.steps.proofs.recover_with.Tie as tie
 
 abbrev Inv-loop : tie.InvT-loop
-Inv-loop g dead v table₀ received symbols₀ turning held₀ u₀ u-end table symbols held u =
+Inv-loop g dead v held table₀ received symbols₀ turning listed₀ u₀ u-end table symbols listed u =
     (u ≤ length dead) × (u-end ≡ length dead) × (length symbols ≡ size (g .shape))
     × ((pairs : List ℕ) → Known narrow (g .shape) dead v pairs received 0 symbols₀ → Known narrow (g .shape) dead v pairs received u symbols)
-    × (length table ≡ length table₀) × Fronted dead held (g .shape .n) table
+    × (length table ≡ length table₀) × Fronted dead listed (g .shape .n) table
 
 abbrev μ-loop : tie.MeasureT-loop
-μ-loop g dead v table₀ received symbols₀ turning held₀ u₀ u-end table symbols held u = u-end - u
+μ-loop g dead v held table₀ received symbols₀ turning listed₀ u₀ u-end table symbols listed u = u-end - u
 
 begin-requires : tie.Need-begin-requires Inv-loop μ-loop
 begin-requires c κs =
     let st = c .before .before .before .before .before .before .before .before .before .before in
-    let m = c .before .before .before .before .list-members in
-    ((st .pre .0 .0, st .pre .0 .1, rw (m .kept .1 .1 .1 .0) (st .pre .0 .2), m .ensures), st .pre .1)
+    let m = c .before .before .before .before .relist in
+    ((st .pre .0 .0, st .pre .0 .1, rw (m .kept .1 .1 .1 .1 .0) (st .pre .0 .2), m .ensures), st .pre .1)
 
 loop-holds : tie.Need-loop-holds Inv-loop μ-loop
 loop-holds c =
-    (omega arith, refl, c .before .before .begin .kept .1 .1 .1 .1 .1 .0 ∙ c .before .before .before .before .before .before .before .before .before .before .before .before .before .pre .1 .1, λ pairs K. K, refl, c .before .before .before .before .before .before .before .list-members .ensures)
+    (omega arith, refl, c .before .before .begin .kept .1 .1 .1 .1 .1 .0 ∙ c .before .before .before .before .before .before .before .before .before .before .before .before .before .pre .1 .1, λ pairs K. K, refl, c .before .before .before .before .before .before .before .relist .ensures)
 
 loop-again : tie.Need-loop-again Inv-loop μ-loop
 loop-again c =
@@ -48,17 +48,17 @@ loop-again c =
 
 -- the table has room
 room : (c : tie.At-loop Inv-loop μ-loop) → c .before .before .before .before .before .before .before .before .before .before .before .before .before .before .args .g .places ≤ length (c .loop .table)
-room c = rw (c .loop .inv .4 ∙ c .before .before .before .before .before .before .before .before .list-members .kept .1 .1 .1 .0) (c .before .before .before .before .before .before .before .before .before .before .before .before .before .before .pre .0 .2)
+room c = rw (c .loop .inv .4 ∙ c .before .before .before .before .before .before .before .before .relist .kept .1 .1 .1 .1 .0) (c .before .before .before .before .before .before .before .before .before .before .before .before .before .before .pre .0 .2)
 
-relist-requires : tie.Need-relist-requires Inv-loop μ-loop
-relist-requires c κs = (c .before .before .before .before .before .before .before .before .before .before .before .before .before .before .before .before .before .before .pre .0 .0, room (c .before .before .before .before), c .before .before .before .before .loop .inv .5)
+relist-requires-2 : tie.Need-relist-requires-2 Inv-loop μ-loop
+relist-requires-2 c κs = (c .before .before .before .before .before .before .before .before .before .before .before .before .before .before .before .before .before .before .pre .0 .0, room (c .before .before .before .before), c .before .before .before .before .loop .inv .5)
 
 cross-from-requires : tie.Need-cross-from-requires Inv-loop μ-loop
 cross-from-requires c κs =
     let st = c .before .before .before .before .before .before .before .before .before .before .before .before .before .before .before .before .before .before .before .before .before .before .before in
     let p = st .pre .0 in
     let l = c .before .before .before .before .before .before .before .before .before .loop in
-    let r = c .before .before .before .before .relist in (
+    let r = c .before .before .before .before .relist2 in (
       (p .0, p .1, omega arith, eqb-false _ _ (neither _ _ (c .before .before .before .before .before .before .before .if1 .left) .0), omega arith, rw (r .kept .1 .1 .1 .1 .0) (room (c .before .before .before .before .before .before .before .before .before)), rw (c .before .before .before .before .before .before .rank-class .ensures) at (r .ensures)),
       (st .pre .1 .0, l .inv .2),
     )
@@ -76,7 +76,7 @@ loop-again-2 : tie.Need-loop-again-2 Inv-loop μ-loop
 loop-again-2 c =
     let st = c .before .before .before .before .before .before .before .before .before .before .before .before .before .before .before .before .before .before .before .before .before .before .before .before .before .before in
     let l = c .before .before .before .before .before .before .before .before .before .before .before .before .loop in
-    let r = c .before .before .before .before .before .before .before .relist in
+    let r = c .before .before .before .before .before .before .before .relist2 in
     let h = low (c .before .before .before .before .before .before .before .before .before .before .before) .0 in (
       omega arith,
       refl,
@@ -101,7 +101,7 @@ returns c =
     }
 
 same-length : tie.Need-same-length Inv-loop μ-loop
-same-length c = c .before .loop .inv .4 ∙ c .before .before .before .before .before .before .before .before .before .list-members .kept .1 .1 .1 .0
+same-length c = c .before .loop .inv .4 ∙ c .before .before .before .before .before .before .before .before .before .relist .kept .1 .1 .1 .1 .0
 
 pub recover-with-spec : {M : Type 1} → statement M
 recover-with-spec =
@@ -116,7 +116,7 @@ recover-with-spec =
     (λ c. search needs)
     loop-again
     (λ c κs. search needs)
-    relist-requires
+    relist-requires-2
     cross-from-requires
     add-u-2
     (λ c. search needs)
