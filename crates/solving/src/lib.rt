@@ -1,34 +1,29 @@
-// The first step of a new node, a run of sums at a time: what is needed of a run's columns are sums of the helpers' sums, each times a
-// multiplier that serves all batches. The own symbols are kept, the other new nodes' sums handed out.
+// What a first step needs of the columns of a run of sums: sums of the helpers' sums, each times a multiplier that serves all batches. Own
+// symbols are spread over their places, the other new nodes' sums handed out.
 use classes::Layout;
 use classes::among;
-use classes::class_size;
-use classes::members_of;
-use classes::rank_class;
-use column::Outcome;
 use filling::sum_row;
 use rows::RUN;
 use rows::copy;
 use rows::store;
 use shape::MODULUS;
 use shape::MOST_NODES;
-use tables::TABLE;
 use tables::entry_multipliers;
 use tables::idle;
 use tables::marks;
 ghost use mathlib.Core.Path.{_≡_};
-ghost use mathlib.Core.Bool.{true, false};
-ghost use Prim.Native.Nat.{ℕ, _+_, _-_, _*_, _^_, _≤_, _<_};
+ghost use mathlib.Core.Bool.{true};
+ghost use Prim.Native.Nat.{ℕ, _+_, _*_, _^_, _≤_, _<_};
 ghost use lib.ListN.{length, getD};
-ghost use Rattle.lists.specs.Lists.{element, rising};
+ghost use Rattle.lists.specs.Lists.{rising};
 ghost use Rattle.shape.specs.Shape.{mostNodes};
 ghost use Rattle.code.specs.Code.{narrow};
 ghost use Rattle.rows.specs.Rows.{mostPlaces, Low, remainder};
 ghost use Rattle.tables.specs.Tables.{tableSize};
-ghost use Rattle.filling.specs.Filling.{Summable, InRun, InLayers};
+ghost use Rattle.filling.specs.Filling.{Summable, InRun};
 ghost use Rattle.classes.specs.Classes.{node, rankClass, members, messageSize};
 ghost use Rattle.classes.specs.Layout.{Ready, Listed};
-ghost use Rattle.solving.specs.Solving.{slotOf, slots, Helped, FirstDone, Gathered, rowSum, Multiplied, Spread, Places, Put, Other, slotPlace, handedSum, HandedOut, Owned, pairPlace};
+ghost use Rattle.solving.specs.Solving.{slotOf, slots, Gathered, rowSum, Multiplied, Spread, Places, Put, Other, slotPlace, handedSum};
 
 // A row of symbols for each node.
 pub const SENT: usize = MOST_NODES * RUN;
@@ -127,78 +122,6 @@ pub fn hand_out(
     }
 }
 
-// The even numbers.
-fn doubled() -> [usize; RUN]
-    ensures { λ out. ⌜ (length out ≡ mostPlaces) × ((t : ℕ) → t < mostPlaces → element out t ≡ t * 2) ⌝ }
-{
-    let mut out = [0usize; RUN];
-    for t in 0..RUN {
-        out[t] = t * 2;
-    }
-    out
-}
-
-// The first step at a run of sums.
-fn first_run(
-    g: Layout,
-    dead: &[usize],
-    helpers: &[usize],
-    u: usize,
-    first: usize,
-    run: usize,
-    table: &[u16],
-    messages: &[u16],
-    pairs: &mut [u16],
-    sums: &mut [u16],
-)
-    requires { ⌜ (Ready (now dead) g) × (Helped (g .shape) (now dead) (now helpers) u (now messages)) × (run ≤ mostPlaces) × (first + run ≤ messageSize (g .shape) (now dead)) × (Multiplied (g .shape) (now dead) (now helpers) u first run (now table)) ⌝ }
-    requires { ⌜ (length (now pairs) ≡ 2 * messageSize (g .shape) (now dead)) × (length (now sums) ≡ (length (now dead) - 1) * messageSize (g .shape) (now dead)) ⌝ }
-    ensures { λ _. ⌜ Owned (g .shape) (now (dead .entry)) (now (helpers .entry)) u (now (messages .entry)) pairPlace (InRun first run) (now (pairs .entry)) (now (pairs .exit)) × HandedOut (g .shape) (now (dead .entry)) (now (helpers .entry)) u (now (messages .entry)) false (InRun first run) (now (sums .entry)) (now (sums .exit)) ⌝ }
-{
-    let s = g.shape;
-    let n = s.n;
-    let at = doubled();
-    let sent = gather(g, helpers, first, run, messages);
-    put_entry(helpers, run, table, &sent, dead[u], first * 2, &at, pairs);
-    put_entry(helpers, run, table, &sent, n, first * 2 + 1, &at, pairs);
-    hand_out(g, dead, helpers, u, false, first, run, table, &sent, sums);
-}
-
-// At a run of the members of the rank's class, in every batch.
-fn first_batches(
-    g: Layout,
-    dead: &[usize],
-    helpers: &[usize],
-    u: usize,
-    size: usize,
-    first: usize,
-    run: usize,
-    table: &[u16],
-    messages: &[u16],
-    pairs: &mut [u16],
-    sums: &mut [u16],
-)
-    requires { ⌜ (Ready (now dead) g) × (Helped (g .shape) (now dead) (now helpers) u (now messages)) × (run ≤ mostPlaces) × (first + run ≤ size) × (messageSize (g .shape) (now dead) ≡ g .batches * size) × ((b : ℕ) → b < g .batches → Multiplied (g .shape) (now dead) (now helpers) u (b * size + first) run (now table)) ⌝ }
-    requires { ⌜ (length (now pairs) ≡ 2 * messageSize (g .shape) (now dead)) × (length (now sums) ≡ (length (now dead) - 1) * messageSize (g .shape) (now dead)) ⌝ }
-    ensures { λ _. ⌜ Owned (g .shape) (now (dead .entry)) (now (helpers .entry)) u (now (messages .entry)) pairPlace (InLayers size first run (g .batches)) (now (pairs .entry)) (now (pairs .exit)) × HandedOut (g .shape) (now (dead .entry)) (now (helpers .entry)) u (now (messages .entry)) false (InLayers size first run (g .batches)) (now (sums .entry)) (now (sums .exit)) ⌝ }
-{
-    let batches = g.batches;
-    for b in 0..batches {
-        first_run(
-            g,
-            dead,
-            helpers,
-            u,
-            b * size + first,
-            run,
-            table,
-            messages,
-            pairs,
-            sums,
-        );
-    }
-}
-
 // The members of a run: those that are left where they are few.
 pub fn run_from(size: usize, first: usize) -> usize
     requires { ⌜ first < size ⌝ }
@@ -232,43 +155,4 @@ pub fn run_table(
         each[t] = class[first + t] as usize;
     }
     entry_multipliers(n, dead[u], &each, run, helpers, marked, skipped, table);
-}
-
-// The first step of rank u, from the helpers' messages.
-pub fn first_into(
-    g: Layout,
-    dead: &[usize],
-    helpers: &[usize],
-    u: usize,
-    messages: &[u16],
-    pairs: &mut [u16],
-    sums: &mut [u16],
-) -> Outcome
-    requires { ⌜ (Ready (now dead) g) × (Helped (g .shape) (now dead) (now helpers) u (now messages)) ⌝ }
-    requires { ⌜ (length (now pairs) ≡ 2 * messageSize (g .shape) (now dead)) × (length (now sums) ≡ (length (now dead) - 1) * messageSize (g .shape) (now dead)) ⌝ }
-    ensures { λ r. ⌜ FirstDone (g .shape) (now (dead .entry)) (now (helpers .entry)) u (now (messages .entry)) (now (pairs .exit)) (now (sums .exit)) r ⌝ }
-{
-    let class = members_of(g, dead, rank_class(g, dead, u));
-    let size = class_size(g, dead);
-    let mut table = [0u16; TABLE];
-    let mut first = 0;
-    while first < size {
-        let run = run_from(size, first);
-        run_table(g, dead, helpers, u, &class, first, run, &mut table);
-        first_batches(
-            g,
-            dead,
-            helpers,
-            u,
-            size,
-            first,
-            run,
-            &table,
-            messages,
-            pairs,
-            sums,
-        );
-        first += run;
-    }
-    Outcome::Solved
 }

@@ -1,4 +1,4 @@
--- `solving::first_into` meets its contract: the sums of the members passed are done, in every batch. Assumes nothing.
+-- `pairing::first_into` meets its contract: the sums of the members passed are done, in every batch. Assumes nothing.
 use mathlib.Core.Path.{_≡_, refl, sym, _∙_}
 use mathlib.Core.Bool.{false}
 use Prim.Native.Nat.{ℕ, _-_, _≤_, _<_}
@@ -11,12 +11,12 @@ use Rattle.rows.proofs.Rows.{low-replicate}
 use Rattle.tables.specs.Tables.{tableSize}
 use Rattle.filling.specs.Filling.{Below}
 use Rattle.classes.specs.Classes.{messageSize}
 use Rattle.solving.specs.Solving.{pairPlace, Owned, HandedOut}
 use Rattle.solving.proofs.Entries.{Classed, classed, all-passed}
 use Rattle.solving.proofs.Puts.{put-none, put-run}
 use Rattle.solving.proofs.Sending.{slots-apart, pairs-apart, pairs-end, sent-end}
-use Rattle.solving.proofs.first_into.Statement.{statement}
-use Rattle.solving.proofs.first_into.Tie as tie
+use Rattle.pairing.proofs.first_into.Statement.{statement}
+use Rattle.pairing.proofs.first_into.Tie as tie
 
 abbrev Inv-loop : tie.InvT-loop
 Inv-loop g dead helpers u messages pairs₀ sums₀ class size table₀ first₀ pairs sums table first =

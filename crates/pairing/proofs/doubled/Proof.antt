@@ -1,4 +1,4 @@
--- `solving::doubled` meets its contract. Assumes nothing.
+-- `pairing::doubled` meets its contract. Assumes nothing.
 use mathlib.Core.Path.{_≡_, refl}
 use Prim.Native.Nat.{ℕ, _-_, _*_, _≤_, _<_}
 use native.Mathlib.Omega.{arith}
@@ -7,8 +7,8 @@ use lib.ListN.{length, length-set}
 use Rattle.lists.specs.Lists.{element}
 use Rattle.lists.proofs.Stores.{stored-more}
 use Rattle.rows.specs.Rows.{mostPlaces}
-use Rattle.solving.proofs.doubled.Statement.{statement}
-use Rattle.solving.proofs.doubled.Tie as tie
+use Rattle.pairing.proofs.doubled.Statement.{statement}
+use Rattle.pairing.proofs.doubled.Tie as tie
 
 abbrev Inv-loop : tie.InvT-loop
 Inv-loop out₀ t₀ out t = (t ≤ mostPlaces) × (length out ≡ mostPlaces) × ((k : ℕ) → k < t → element out k ≡ k * 2)

@@ -1,4 +1,4 @@
--- `solving::first_run` meets its contract. Assumes nothing.
+-- `pairing::first_run` meets its contract. Assumes nothing.
 use mathlib.Core.Path.{_≡_, sym, ap₂, _∙_}
 use mathlib.Core.Bool.{false}
 use Prim.Native.Nat.{ℕ, _+_, _*_, _≤_, _<_}
@@ -7,11 +7,11 @@ use borrow.Author.Needs.{needs}
 use lib.ListN.{length}
 use Rattle.classes.specs.Classes.{node}
 use Rattle.classes.proofs.Layouts.{bounded, share-high, node-high}
 use Rattle.solving.specs.Solving.{slots, Places, pairPlace}
 use Rattle.solving.proofs.Entries.{entry-summable, rank-summable, run-handed, run-owned}
 use Rattle.solving.proofs.Sending.{pairs-apart}
-use Rattle.solving.proofs.first_run.Statement.{statement}
-use Rattle.solving.proofs.first_run.Tie as tie
+use Rattle.pairing.proofs.first_run.Statement.{statement}
+use Rattle.pairing.proofs.first_run.Tie as tie
 
 gather-requires : tie.Need-gather-requires
 gather-requires c κs =

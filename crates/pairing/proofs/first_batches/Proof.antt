@@ -1,4 +1,4 @@
--- `solving::first_batches` meets its contract: the sums of the batches passed are done. Assumes nothing.
+-- `pairing::first_batches` meets its contract: the sums of the batches passed are done. Assumes nothing.
 use mathlib.Core.Path.{_≡_, _∙_}
 use mathlib.Core.Bool.{false}
 use Prim.Native.Nat.{_+_, _-_, _*_, _≤_}
@@ -7,12 +7,12 @@ use borrow.Author.Needs.{needs}
 use Rattle.filling.specs.Filling.{InLayers}
 use Rattle.classes.specs.Classes.{messageSize}
 use Rattle.classes.proofs.Layouts.{share-high}
 use Rattle.solving.specs.Solving.{pairPlace, Owned, HandedOut}
 use Rattle.solving.proofs.Entries.{batches-high, batch-room}
 use Rattle.solving.proofs.Puts.{put-none, put-batch}
 use Rattle.solving.proofs.Sending.{slots-apart, pairs-apart}
-use Rattle.solving.proofs.first_batches.Statement.{statement}
-use Rattle.solving.proofs.first_batches.Tie as tie
+use Rattle.pairing.proofs.first_batches.Statement.{statement}
+use Rattle.pairing.proofs.first_batches.Tie as tie
 
 abbrev Inv-loop : tie.InvT-loop
 Inv-loop g dead helpers u size first run table messages pairs₀ sums₀ batches b₀ pairs sums b =
