@@ -95,7 +95,7 @@ def refused_for_itself(verdict):
 def faults(edits, refused, log):
     """What is wrong with the verdict on a round, by function; {} where each wrong program is refused."""
     if not refused:
-        return {name: 'the crate is proved' for name in edits}
+        return {name: 'the crate is not refused' for name in edits}
     if None in edits:
         return {}
     verdicts = dict(VERDICT.findall(log))
@@ -111,7 +111,8 @@ def judge(tree):
         for number, edits in crate.rounds():
             base = tree / 'target' / 'must-fail' / crate.name
             result, log = base / f'round{number}.res', base / f'round{number}' / '.log'
-            found = faults(edits, result.read_text() == 'refused\n', log.read_text() if log.exists() else '')
+            refusal = result.exists() and result.read_text() == 'refused\n'
+            found = faults(edits, refusal, log.read_text() if log.exists() else '')
             for name, edit in edits.items():
                 verdict = f'NOT REFUSED: {found[name]}' if name in found else f'refused ({name or "the crate"})'
                 print(f'wrong program {crate.name}/{edit.stem}: {verdict}')
