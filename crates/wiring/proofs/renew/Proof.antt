@@ -128,7 +128,7 @@ recover-requires c κs =
     let w = within i in
     let e = st .pre .0 .share-is in
     let h : l .u < length (st .args .dead .now) = omega arith in (
-      (st .pre .0, h),
+      (st .pre .0, omega arith),
       (
         (simp (length-take, length-drop) (omega (arith, w, ap (λ z. (length (st .args .dead .now) - 1) * z) e)), simp (length-take, length-drop) (omega (arith, w, i .before .before .before .size .ensures))),
         (rw (lent i .0) (st .pre .4 .received (l .u) h), rw (lent i .1 ∙ renewing-own _ _ (ready-dead (st .pre .0)) (l .u) h _ _ _ (l .inv .2)) (st .pre .4 .own (l .u) h)),
