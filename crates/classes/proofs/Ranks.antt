@@ -4,7 +4,7 @@ use mathlib.Core.Bool.{Bool, true, false, cond}
 use mathlib.Core.List.{List}
 use Prim.Native.Nat.{ℕ, _+_, _-_, _*_, _/_, _%_, _≤_, _<_}
 use native.Mathlib.Decide.{decLt}
-use native.Mathlib.Nat.{le-refl, mul-comm, mul-le-mul-left, mul-mod-right, mul-div-right}
+use native.Mathlib.Nat.{le-refl, mul-comm, mul-le-mul-left, mul-mod-right, mul-div-right, div-le-self, mod-le}
 use native.Mathlib.Omega.{arith}
 use lib.Dec.{ltb, eqb}
 use lib.ListN.{length}
@@ -91,3 +91,11 @@ rankClass-le dead u = go (decLt (u / batch dead) (top dead))
     go : Dec (u / batch dead < top dead) → rankClass dead u ≤ top dead
     go (yes l) = rw (lt-ltb (u / batch dead) (top dead) l) (inner (eqb (u % batch dead) 0) l)
     go (no l) = rw (le-ltb (u / batch dead) (top dead) (omega arith)) (le-refl (top dead))
+
+-- rank 0 has class 0
+pub rank-zero : (dead : List ℕ) → rankClass dead 0 ≡ 0
+rank-zero dead = go (decLt (0 / batch dead) (top dead))
+  where
+    go : Dec (0 / batch dead < top dead) → rankClass dead 0 ≡ 0
+    go (yes l) = rank-first dead 0 (0 / batch dead) refl (omega (arith, mod-le 0 (batch dead))) l .0
+    go (no l) = omega (arith, rankClass-le dead 0, div-le-self 0 (batch dead))

@@ -27,7 +27,7 @@ use Rattle.steps.specs.Storing.{sumSymbol, Paired, OwnLow, LowAt, sentBy
 use Rattle.classes.proofs.Sizes.{batch-pos}
 use Rattle.classes.proofs.Dead.{Dead, flip-node-lt}
 use Rattle.classes.proofs.Turns.{class-turned}
-use Rattle.classes.proofs.Ranks.{Rank, partner-lt, rankClass-le, turning-rank}
+use Rattle.classes.proofs.Ranks.{Rank, partner-lt, rankClass-le, turning-rank, rank-zero}
 use Rattle.steps.proofs.Providers.{provider, provider-zero, provider-more, Origin, origin-or-not, turned-before, turning-own, provider-lt, Target, target, source}
 use Rattle.steps.proofs.Storing.{place-own, sum-first, sum-other, turning}
 
@@ -385,6 +385,13 @@ module _ (c : Code) {s : Shape} {dead : List ℕ} (D : Dead s dead) (v : ℕ) (l
           ap (λ z. getD S z 0) (sym (ap (λ z. z * P + x % P) (div-add-mod (x / P) (batch dead)) ∙ div-add-mod' x P))
           ∙ K .cells (x / P % batch dead) (x / P / batch dead) (x % P) (mod-lt (x / P) (batch-pos dead)) b (mod-lt x (pow-pos (s .n)))
           (settled (x / P % batch dead) (x % P) (mod-lt (x / P) (batch-pos dead)))
+
+  -- one new node alone has all its symbols from its own pairs
+  pub alone : length dead ≡ 1 → (S : List ℕ) → Paired s dead v pairs S → S ≡ contents c s dead v pairs received
+  alone e S G =
+      let z : v ≡ 0 = omega arith in
+      let K = begun-own S G (ap (rankClass dead) z ∙ rank-zero dead) in
+      recovered S (subst (λ u. Known c s dead v pairs received u S) (let q : v + 1 ≡ length dead = omega arith in q) (skip-own S (subst (λ u. Known c s dead v pairs received u S) (sym z) K)))
 
   -- ---- the loop over the ranks
 

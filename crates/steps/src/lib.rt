@@ -242,7 +242,8 @@ pub fn recover(g: Layout, dead: &[usize], v: usize, received: &[u16], symbols: &
     }
 }
 
-// The whole second step of rank v: the lent table has the members of its own class once its pairs are stored.
+// The whole second step of rank v: the lent table has the members of its own class once its pairs are stored. One new node alone has all its
+// symbols from its own pairs.
 fn second_with(
     g: Layout,
     dead: &[usize],
@@ -258,6 +259,9 @@ fn second_with(
     ensures { λ _. ⌜ now (symbols .exit) ≡ contents narrow (g .shape) (now (dead .entry)) v (now (pairs .entry)) (now (received .entry)) ⌝ }
 {
     pairs_with(g, dead, v, table, pairs, symbols);
+    if dead.len() == 1 {
+        return;
+    }
     let held = rank_class(g, dead, v);
     recover_with(g, dead, v, held, table, received, symbols);
 }
