@@ -42,12 +42,8 @@ entry-columns n i f high h =
 
 -- ---- points
 
-pub point-rows-none : (P : ℕ → List ℕ) (run : ℕ) → PointRows 0 P run (replicate pointsSize 0)
-point-rows-none P run = record {
-  long = length-replicate {A = ℕ} pointsSize 0;
-  low = low-replicate q pointsSize 0 (omega arith);
-  each = λ i t h. absurd (omega arith);
-}
+pub point-rows-none : (P : ℕ → List ℕ) (run : ℕ) (rows : List ℕ) → length rows ≡ pointsSize → Low q rows → PointRows 0 P run rows
+point-rows-none P run rows long low = record { long = long; low = low; each = λ i t h. absurd (omega arith) }
 
 -- one row more
 pub point-rows-more : (m : ℕ) (P : ℕ → List ℕ) (run : ℕ) (v : ℕ → ℕ) (before after : List ℕ) → run ≤ mostPlaces → PointRows m P run before

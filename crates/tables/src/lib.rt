@@ -71,16 +71,14 @@ fn opposite_row(node: usize, each: &[usize], run: usize, at: usize, out: &mut [u
     }
 }
 
-// The points of n nodes at some a.
-fn point_rows(n: usize, each: &[usize], run: usize) -> [u32; POINTS]
-    requires { ⌜ (n ≤ mostNodes) × (run ≤ mostPlaces) × (run ≤ length (now each)) ⌝ }
-    ensures { λ out. ⌜ PointRows n (nodePoints n (element (now (each .entry)))) run out ⌝ }
+// The points of n nodes at some a. The rows are lent: returned, they would be copied.
+fn point_rows(n: usize, each: &[usize], run: usize, out: &mut [u32])
+    requires { ⌜ (n ≤ mostNodes) × (run ≤ mostPlaces) × (run ≤ length (now each)) × (length (now out) ≡ pointsSize) × Low (narrow .modulus) (now out) ⌝ }
+    ensures { λ _. ⌜ PointRows n (nodePoints n (element (now (each .entry)))) run (now (out .exit)) ⌝ }
 {
-    let mut out = [0u32; POINTS];
     for node in 0..n {
-        point_row(node, each, run, node * RUN, &mut out);
+        point_row(node, each, run, node * RUN, out);
     }
-    out
 }
 
 // The product, at each place, of the point of entry x less those of the entries that are neither listed nor i.
@@ -163,7 +161,8 @@ pub fn multipliers_at(
     requires { ⌜ (n ≤ mostNodes) × (m ≤ n) × (run ≤ mostPlaces) × (run ≤ length (now each)) × (rising 0 n (now list) ≡ true) × Marks n (now list) marked × (length (now table) ≡ tableSize) × Low (narrow .modulus) (now table) ⌝ }
     ensures { λ _. ⌜ TableOf n (element (now (each .entry))) run (now (list .entry)) m (now (table .exit)) ⌝ }
 {
-    let points = point_rows(n, each, run);
+    let mut points = [0u32; POINTS];
+    point_rows(n, each, run, &mut points);
     all_rows(n, m, run, &points, list, marked, marked, table);
 }
 
@@ -183,7 +182,8 @@ pub fn entry_multipliers(
     requires { ⌜ Marks (n + 1) (now list) marked × ((e : ℕ) → e < n + 1 → getD skipped e false ≡ false → getD marked e false ≡ false) × (length (now table) ≡ tableSize) × Low (narrow .modulus) (now table) ⌝ }
     ensures { λ _. ⌜ TableOver (entryPoints n i (element (now (each .entry)))) run (now (list .entry)) (λ e. getD skipped e false) (n + 1) (now (table .exit)) ⌝ }
 {
-    let mut points = point_rows(n, each, run);
+    let mut points = [0u32; POINTS];
+    point_rows(n, each, run, &mut points);
     opposite_row(i, each, run, n * RUN, &mut points);
     let m = n + 1;
     all_rows(m, m, run, &points, list, marked, skipped, table);
