@@ -6,7 +6,7 @@ use Prim.Native.Nat.{ℕ, _+_, _*_, _%_, _≤_, _<_}
 use native.Mathlib.Omega.{arith}
 use lib.Bits.{bitXor, xor-zero-r}
 use lib.ListN.{length, getD, set, length-set}
-use lib.Seq.{getD-set-same, getD-set-other}
+use lib.Seq.{getD-set-same, getD-set-other, set-comm}
 use Rattle.lists.proofs.Tests.{below-or-not}
 use Rattle.batches.specs.Batches.{turned, Apart, Remain, PairedIn, Stored}
 
@@ -86,3 +86,14 @@ module _ (members : List ℕ) (turn : ℕ) (pairs : List ℕ) where
           ∙ A .other x h
       other′ x (inr h) =
           ap (λ z. getD then z 0) (ap (turned members turn) h ∙ sym e) ∙ getD-set-same (set now s v) t w 0 t-low ∙ g ∙ ap (λ z. getD pairs (z * 2 + 1) 0) (sym h)
+
+  -- two at a time, the first places before the others
+  pub paired-two : (n s t u y v w p q room : ℕ) (now : List ℕ) → Apart members 0 turn room → Apart members turn 0 room → PairedIn members turn pairs n now → n + 1 < length members
+      → length now ≡ room → s ≡ turned members 0 n → t ≡ turned members turn n → u ≡ turned members 0 (n + 1) → y ≡ turned members turn (n + 1)
+      → v ≡ getD pairs (n * 2 + 0) 0 → w ≡ getD pairs (n * 2 + 1) 0 → p ≡ getD pairs ((n + 1) * 2 + 0) 0 → q ≡ getD pairs ((n + 1) * 2 + 1) 0
+      → PairedIn members turn pairs (n + 2) (set (set (set (set now s v) u p) t w) y q)
+  paired-two n s t u y v w p q room now P Q A l r d e f g h i j k =
+      let one = paired-more n s t v w room now P Q A (omega arith) r d e h i in
+      let two = paired-more (n + 1) u y p q room (set (set now s v) t w) P Q one l (length-set (set now s v) t w ∙ length-set now s v ∙ r) f g j k in
+      let m : n + 1 + 1 ≡ n + 2 = omega arith in
+      rw (m, set-comm (set now s v) t u w p (λ z. P .apart (n + 1) n l (omega arith) (sym f ∙ sym z ∙ e))) at two

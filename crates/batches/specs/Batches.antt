@@ -35,6 +35,10 @@ pub record PairedIn (members : List ℕ) (turn : ℕ) (pairs : List ℕ) (count 
   pub one : (x : ℕ) → x < count → getD symbols (turned members 0 x) 0 ≡ getD pairs (x * 2 + 0) 0
   pub other : (x : ℕ) → x < count → getD symbols (turned members turn x) 0 ≡ getD pairs (x * 2 + 1) 0
 
+-- the symbols at the near places are below q
+pub record LowNear (q : ℕ) (members : List ℕ) (near : ℕ) (symbols : List ℕ) : Type 0 where
+  pub each : (x : ℕ) → x < length members → getD symbols (turned members near x) 0 < q
+
 -- what is left of sum x where the symbol at its near place is taken away
 unfoldable pub leftIn : Code → List ℕ → ℕ → List ℕ → List ℕ → ℕ → ℕ
 leftIn c members near sums symbols x = minus (c .modulus) (getD sums x 0) (getD symbols (turned members near x) 0)

@@ -6,7 +6,6 @@ use Prim.Native.Nat.{ℕ, zero, suc, _+_, _-_, _*_, _/_, _%_, _^_, _≤_, _<_}
 use native.Mathlib.Nat.{mul-le-mul, div-le-self, le-trans}
 use native.Mathlib.Omega.{arith}
 use borrow.Author.Tests.{eqb-true, not-false}
-use lib.Arith.{digits-lt}
 use lib.ListN.{length, getD}
 use Rattle.lists.specs.Lists.{all, member, outside, rising}
 use Rattle.lists.proofs.Tests.{neither, all-at}
@@ -199,6 +198,8 @@ pub record SecondPassed (s : Shape) (dead helpers : List ℕ) (new : ℕ) (pairs
   pub pairs-long : length pairs ≡ 2 * messageSize s dead
   pub received-long : length received ≡ (length dead - 1) * messageSize s dead
   pub due : room ≡ size s
+  pub pairs-below : (e : ℕ) → e < length pairs → getD pairs e 0 < narrow .modulus
+  pub received-below : (e : ℕ) → e < length received → getD received e 0 < narrow .modulus
 
 pub second-passed : (s : Shape) (dead helpers : List ℕ) (new : ℕ) (pairs received : List ℕ) (room : ℕ)
     → secondStepRefusal narrow s dead helpers new pairs received room ≡ 0 → SecondPassed s dead helpers new pairs received room
@@ -207,12 +208,15 @@ second-passed s dead helpers new pairs received room e =
     let p = judged-passed s dead helpers _ _ (symbolBad (narrow .modulus) pairs || symbolBad (narrow .modulus) received) e in
     let l = neither _ _ (p .1) in
     let m = neither _ _ (l .0) in
+    let b = neither (symbolBad (narrow .modulus) pairs) (symbolBad (narrow .modulus) received) (p .2) in
     record {
       listed = p .0;
       new-dead = inside new dead (p .0 .named);
       pairs-long = right-length _ _ (m .0);
       received-long = right-length _ _ (m .1);
       due = right-length _ _ (l .1);
+      pairs-below = symbols-accepted (narrow .modulus) pairs (b .0);
+      received-below = symbols-accepted (narrow .modulus) received (b .1);
     }
 
 -- a whole repair

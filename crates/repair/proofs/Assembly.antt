@@ -17,18 +17,21 @@ use Rattle.lists.proofs.Places.{Place, place-of}
 use Rattle.column.specs.declared.Outcome.{Outcome}
 use Rattle.shape.specs.declared.Shape.{Shape}
 use Rattle.shape.specs.Shape.{size}
+use Rattle.rows.specs.Rows.{Low}
+use Rattle.rows.proofs.Rows.{low-flat}
 use Rattle.code.specs.Code.{narrow}
 use Rattle.classes.specs.Classes.{node, messageSize}
 use Rattle.classes.specs.Steps.{added, place, otherRank, exchangeAt, exchange, solved, ownPairs, contents}
 use Rattle.classes.specs.Whole.{fromHelpers, fromSender, fromDead, wire, renewed, repairedSymbol, repaired}
 use Rattle.solving.specs.Solving.{slotOf}
-use Rattle.wiring.specs.Wires.{inward, inwards, toRank, Messaged, Wired, Exchanged, fromOthers, Renewed}
+use Rattle.wiring.specs.Wires.{inward, inwards, toRank, Messaged, Wired, Exchanged, fromOthers, Renewable, Renewed}
 use Rattle.classes.proofs.Dead.{Dead, Accepted, dead-of}
 use Rattle.classes.proofs.FirstStep.{exchange-length}
 use Rattle.classes.proofs.Wire.{helpers-at}
 use Rattle.classes.proofs.Messages.{messageAt, message-table}
 use Rattle.solving.proofs.Sending.{other-is}
 use Rattle.wiring.proofs.OnWire.{helpers-length}
+use Rattle.repair.proofs.Below.{pairs-low, exchange-low}
 
 -- a list of n times m elements by its rows
 is-flat : (n m : ℕ) (f : ℕ → List ℕ) (l : List ℕ) → ((i : ℕ) → length (f i) ≡ m) → length l ≡ n * m → ((i x : ℕ) → i < n → x < m → getD l (i * m + x) 0 ≡ getD (f i) x 0) → l ≡ flat n f
@@ -112,7 +115,7 @@ module _ (s : Shape) (dead helpers nodes wire₀ W₁ : List ℕ) (A : Accepted 
     };
   }
 
-  module _ (N₁ N₂ W₂ : List ℕ) (o : Outcome) (all : length nodes ≡ s .n * size s) (E : Exchanged s dead helpers nodes N₁ W₁ W₂ o) (R : Renewed s dead N₁ N₂ W₂) where
+  module _ (N₁ W₂ : List ℕ) (o : Outcome) (E : Exchanged s dead helpers nodes N₁ W₁ W₂ o) where
     -- ---- the wire
 
     sender-length : (v j : ℕ) → length (fromSender narrow s dead helpers nodes v j) ≡ M
@@ -160,40 +163,60 @@ module _ (s : Shape) (dead helpers nodes wire₀ W₁ : List ℕ) (A : Accepted 
         sym (take-append-drop (inwards s dead) W₂)
         ∙ ap₂ _++_ (E .head ∙ G .head) back-is
 
-    -- ---- the nodes
-
     others-are : (u : ℕ) → u < h → fromOthers s dead u W₂ ≡ fromDead narrow s dead helpers nodes u
     unfolding fromOthers back
     others-are u l =
         ap (piece ((h - 1) * M) u) (back-is ∙ sym (append-nil (flat h (fromDead narrow s dead helpers nodes))))
         ∙ flat-piece ((h - 1) * M) (fromDead narrow s dead helpers nodes) h (λ v _. among-length v) [] u l 0
 
-    new-is : (u : ℕ) → u < h → piece (size s) (node dead u) N₂ ≡ renewed narrow s dead helpers nodes u
-    unfolding renewed
-    new-is u l =
-        R .new u l (ownPairs narrow s dead helpers u (toRank s dead u W₁)) (E .own u l)
-        ∙ ap₂ (λ y z. contents narrow s dead u (ownPairs narrow s dead helpers u y) z) (to-rank u l) (others-are u l)
+    among-low : (u : ℕ) → u < h → Low (narrow .modulus) (fromDead narrow s dead helpers nodes u)
+    unfolding fromDead fromSender
+    among-low u l =
+        low-flat (narrow .modulus) M (h - 1) (fromSender narrow s dead helpers nodes u) (omega arith) (sender-length u)
+        (λ j k.
+        let v = otherRank u j in
+        let m : v < h = other-is s dead helpers u nodes h j l k .0 in
+        exchange-low s dead helpers A v (told v) (rw (to-rank v m) at (wired .helped v m)) (node dead u))
 
-    old-is : (i : ℕ) → i < s .n → member i dead ≡ false → piece (size s) i N₂ ≡ piece (size s) i nodes
-    unfolding node
-    old-is i k e = R .kept i k away ∙ E .kept i k away
-      where
-        away : (u : ℕ) → u < h → getD dead u 0 ≡ i → ⊥
-        away u l z = true≢false (sym (member-of dead u l) ∙ ap (λ y. member y dead) z ∙ e)
+    pub renewable : Renewable s dead N₁ W₂
+    renewable = record {
+      own = λ u l. record {
+        pairs = ownPairs narrow s dead helpers u (toRank s dead u W₁);
+        paired = E .own u l;
+        low = pairs-low s dead helpers A u (toRank s dead u W₁) (wired .helped u l);
+      };
+      received = λ u l. rw (others-are u l) (among-low u l);
+    }
 
-    pub nodes-are : N₂ ≡ repaired narrow s dead helpers nodes
-    unfolding repaired repairedSymbol node
-    nodes-are = is-tabulate N₂ (s .n * size s) (repairedSymbol narrow s dead helpers nodes) 0 (R .long ∙ E .nodes-long ∙ all) (λ e k. each e (place-of (s .n) (size s) e k) (member (e / size s) dead) refl)
-      where
-        each : (e : ℕ) → Place (s .n) (size s) e → (t : Bool) → member (e / size s) dead ≡ t → getD N₂ e 0 ≡ repairedSymbol narrow s dead helpers nodes e
-        each e p true t =
-            let w = at-position dead (e / size s) t in
-            ap (λ z. getD N₂ z 0) (sym (p .whole)) ∙ sym (piece-at (size s) (e / size s) N₂ (e % size s) 0 (p .place))
-            ∙ ap (λ z. getD (piece (size s) z N₂) (e % size s) 0) (sym (w .1))
-            ∙ ap (λ z. getD z (e % size s) 0) (new-is (position (e / size s) dead) (w .0))
-            ∙ sym (cond-true _ _ (member (e / size s) dead) t)
-        each e p false t =
-            ap (λ z. getD N₂ z 0) (sym (p .whole)) ∙ sym (piece-at (size s) (e / size s) N₂ (e % size s) 0 (p .place))
-            ∙ ap (λ z. getD z (e % size s) 0) (old-is (e / size s) (p .row) t)
-            ∙ piece-at (size s) (e / size s) nodes (e % size s) 0 (p .place) ∙ ap (λ z. getD nodes z 0) (p .whole)
-            ∙ sym (cond-false _ _ (member (e / size s) dead) t)
+    -- ---- the nodes
+
+    module _ (N₂ : List ℕ) (all : length nodes ≡ s .n * size s) (R : Renewed s dead N₁ N₂ W₂) where
+      new-is : (u : ℕ) → u < h → piece (size s) (node dead u) N₂ ≡ renewed narrow s dead helpers nodes u
+      unfolding renewed
+      new-is u l =
+          R .new u l (ownPairs narrow s dead helpers u (toRank s dead u W₁)) (E .own u l)
+          ∙ ap₂ (λ y z. contents narrow s dead u (ownPairs narrow s dead helpers u y) z) (to-rank u l) (others-are u l)
+
+      old-is : (i : ℕ) → i < s .n → member i dead ≡ false → piece (size s) i N₂ ≡ piece (size s) i nodes
+      unfolding node
+      old-is i k e = R .kept i k away ∙ E .kept i k away
+        where
+          away : (u : ℕ) → u < h → getD dead u 0 ≡ i → ⊥
+          away u l z = true≢false (sym (member-of dead u l) ∙ ap (λ y. member y dead) z ∙ e)
+
+      pub nodes-are : N₂ ≡ repaired narrow s dead helpers nodes
+      unfolding repaired repairedSymbol node
+      nodes-are = is-tabulate N₂ (s .n * size s) (repairedSymbol narrow s dead helpers nodes) 0 (R .long ∙ E .nodes-long ∙ all) (λ e k. each e (place-of (s .n) (size s) e k) (member (e / size s) dead) refl)
+        where
+          each : (e : ℕ) → Place (s .n) (size s) e → (t : Bool) → member (e / size s) dead ≡ t → getD N₂ e 0 ≡ repairedSymbol narrow s dead helpers nodes e
+          each e p true t =
+              let w = at-position dead (e / size s) t in
+              ap (λ z. getD N₂ z 0) (sym (p .whole)) ∙ sym (piece-at (size s) (e / size s) N₂ (e % size s) 0 (p .place))
+              ∙ ap (λ z. getD (piece (size s) z N₂) (e % size s) 0) (sym (w .1))
+              ∙ ap (λ z. getD z (e % size s) 0) (new-is (position (e / size s) dead) (w .0))
+              ∙ sym (cond-true _ _ (member (e / size s) dead) t)
+          each e p false t =
+              ap (λ z. getD N₂ z 0) (sym (p .whole)) ∙ sym (piece-at (size s) (e / size s) N₂ (e % size s) 0 (p .place))
+              ∙ ap (λ z. getD z (e % size s) 0) (old-is (e / size s) (p .row) t)
+              ∙ piece-at (size s) (e / size s) nodes (e % size s) 0 (p .place) ∙ ap (λ z. getD nodes z 0) (p .whole)
+              ∙ sym (cond-false _ _ (member (e / size s) dead) t)

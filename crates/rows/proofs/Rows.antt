@@ -2,14 +2,16 @@
 use mathlib.Core.Path.{_≡_, refl, sym, ap, _∙_}
 use mathlib.Core.Logic.{_⊎_, inl, inr}
 use mathlib.Core.List.{List, _++_}
-use Prim.Native.Nat.{ℕ, _+_, _-_, _*_, _%_, _≤_, _<_}
+use Prim.Native.Nat.{ℕ, _+_, _-_, _*_, _/_, _%_, _≤_, _<_}
 use native.Mathlib.Decide.{ℕ-discrete}
 use native.Mathlib.Nat.{mod-eq-of-lt}
 use native.Mathlib.Omega.{arith}
-use lib.ListN.{length, getD, take, drop, set, length-set, replicate, length-replicate, getD-replicate, List·getD-eq-default, List·getD-append}
-use lib.Seq.{getD-set-same, getD-set-other, getD-append-add, getD-drop}
-use Rattle.lists.specs.Lists.{element}
+use lib.ListN.{length, getD, take, drop, set, length-set, length-take, replicate, length-replicate, getD-replicate, List·getD-eq-default, List·getD-append}
+use lib.Seq.{getD-set-same, getD-set-other, getD-append-add, getD-take, getD-drop}
+use Rattle.lists.specs.Lists.{element, flat}
 use Rattle.lists.proofs.Tests.{below-or-not}
+use Rattle.lists.proofs.Flats.{flat-length, flat-at}
+use Rattle.lists.proofs.Places.{place-of}
 use Rattle.field.specs.Residues.{minus}
 use Rattle.field.proofs.Residues.{mod-mul-mod, mul-mod-mod}
 use Rattle.inverting.specs.Inverses.{Pivots, Inverted}
@@ -51,13 +53,30 @@ stored-low q at n f before after w low h = record { at = λ e. go e (below-or-no
         let g : e - at < n = omega arith in
         rw (sym (ap (λ k. getD after k 0) d) ∙ w .there (e - at) g) (h (e - at) g)
 
+-- where there is no element, 0 is read
+pub low-each : (q : ℕ) (xs : List ℕ) → 0 < q → ((i : ℕ) → i < length xs → getD xs i 0 < q) → Low q xs
+low-each q xs o h = record { at = λ e. go e (below-or-not e (length xs)) }
+  where
+    go : (e : ℕ) → (e < length xs) ⊎ (length xs ≤ e) → getD xs e 0 < q
+    go e (inl l) = h e l
+    go e (inr l) = rw (List·getD-eq-default xs 0 {n = e} l) o
+
 -- one value throughout
 pub low-replicate : (q n v : ℕ) → v < q → Low q (replicate n v)
-low-replicate q n v h = record { at = λ e. go e (below-or-not e n) }
-  where
-    go : (e : ℕ) → (e < n) ⊎ (n ≤ e) → getD (replicate n v) e 0 < q
-    go e (inl l) = rw (getD-replicate n e v 0 l) h
-    go e (inr l) = rw (List·getD-eq-default (replicate n v) 0 {n = e} (omega (arith, length-replicate n v))) (omega arith)
+low-replicate q n v h = low-each q (replicate n v) (omega arith) (λ e l. rw (getD-replicate n e v 0 (omega (arith, length-replicate n v))) h)
+
+-- a part
+pub low-part : (q n a : ℕ) (xs : List ℕ) → Low q xs → Low q (take n (drop a xs))
+low-part q n a xs w =
+    low-each q (take n (drop a xs)) (omega (arith, w .at 0))
+    (λ e l. let k : e < n = omega (arith, length-take n (drop a xs)) in rw (getD-take n (drop a xs) e 0 k, getD-drop a xs e 0) (w .at (a + e)))
+
+-- rows of m elements, one behind the other
+pub low-flat : (q m n : ℕ) (f : ℕ → List ℕ) → 0 < q → ((i : ℕ) → length (f i) ≡ m) → ((i : ℕ) → i < n → Low q (f i)) → Low q (flat n f)
+low-flat q m n f o long h =
+    low-each q (flat n f) o
+    (λ e l. let p = place-of n m e (rw (flat-length m f n (λ i _. long i)) at l) in
+    rw (ap (λ k. getD (flat n f) k 0) (sym (p .whole)) ∙ flat-at m f n (λ i _. long i) (e / m) (e % m) 0 (p .row) (p .place)) (h (e / m) (p .row) .at (e % m)))
 
 -- elements below q, and behind them what is left of such a list
 pub low-behind : (q n : ℕ) (xs ys : List ℕ) → ((i : ℕ) → i < length xs → getD xs i 0 < q) → Low q ys → Low q (xs ++ drop n ys)

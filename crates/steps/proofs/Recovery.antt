@@ -1,7 +1,7 @@
 -- The second step in place: rank by rank, each stored at the other places of its sums, every symbol becomes the one that the definition gives.
 use mathlib.Core.Path.{_≡_, refl, sym, ap, ap₂, subst, _∙_}
 use mathlib.Core.Logic.{_≢_, _⊎_, inl, inr}
-use mathlib.Core.Bool.{Bool, true, false, _||_}
+use mathlib.Core.Bool.{Bool, true, false, _||_, cond}
 use mathlib.Core.List.{List}
 use Prim.Native.Nat.{ℕ, _+_, _*_, _-_, _/_, _%_, _^_, _≤_, _<_}
 use native.Mathlib.Decide.{ℕ-discrete}
@@ -19,10 +19,11 @@ use Rattle.lists.proofs.Flips.{flip-flip}
 use Rattle.field.specs.Residues.{minus}
 use Rattle.shape.specs.declared.Shape.{Shape}
 use Rattle.shape.specs.Shape.{size}
+use Rattle.rows.specs.Rows.{Low}
 use Rattle.code.specs.Code.{Code}
 use Rattle.classes.specs.Classes.{batch, node, classOf, rankClass, partner, turningRank, rankAt, placeOf, Sum, sumAt, sumPlace}
 use Rattle.classes.specs.Steps.{own, sent, across, origin, layer0, layer, symbolOf, contentsAt, contents}
-use Rattle.steps.specs.Storing.{sumSymbol, Paired, sentBy, Crossed, Begun}
+use Rattle.steps.specs.Storing.{sumSymbol, Paired, OwnLow, LowAt, sentBy, Crossed, Begun}
 use Rattle.classes.proofs.Sizes.{batch-pos}
 use Rattle.classes.proofs.Dead.{Dead, flip-node-lt}
 use Rattle.classes.proofs.Turns.{class-turned}
@@ -44,6 +45,39 @@ pub record Known (c : Code) (s : Shape) (dead : List ℕ) (v : ℕ) (pairs recei
   pub long : length S ≡ size s
   pub cells : (w b a : ℕ) → w < batch dead → b < s .layers / batch dead → a < 2 ^ s .n → Settled dead v u w a
       → getD S (placeOf s dead w b a) 0 ≡ symbolOf c s dead v pairs received w b a
+
+-- ---- the rank that turns the class of rank v: the other places of its sums are first places of rank v's
+
+module _ {s : Shape} {dead : List ℕ} (D : Dead s dead) (v : ℕ) (z : rankClass dead v ≢ 0) where
+  abbrev t : ℕ
+  t = turningRank dead (rankClass dead v)
+
+  turner : Rank dead (turningRank dead (rankClass dead v)) 0 0
+  turner = turning-rank dead (rankClass dead v) (omega arith) (rankClass-le dead v)
+
+  turned-place : (b a : ℕ) → sumPlace s dead t 1 b a ≡ placeOf s dead 0 b (flip (node dead t) a)
+  turned-place b a = sum-other s dead t b a ∙ ap (λ y. placeOf s dead y b (flip (node dead t) a)) (turner .partnered)
+
+  turned-sum : (b a : ℕ) → Sum s dead t b a → Sum s dead v b (flip (node dead t) a)
+  turned-sum b a Q = record {
+    batched = Q .batched;
+    below = flip-node-lt D t a (turner .below) (Q .below);
+    inside =
+        class-turned D (rankClass dead v) a (omega arith) (rankClass-le dead v) ∙ ap (λ x. bitXor x (rankClass dead v)) (Q .inside ∙ turner .class)
+        ∙ xor-zero-l (rankClass dead v);
+  }
+
+  pub begin-low : (q : ℕ) (S : List ℕ) → OwnLow q s dead v S → LowAt q s dead (turningRank dead (rankClass dead v)) 1 S
+  unfolding sumSymbol
+  begin-low q S O = record {
+    each = λ b a Q.
+        let a′ = flip (node dead t) a in
+        rw (ap (λ x. getD S x 0) (turned-place b a ∙ sym (sum-first s dead v b a′)) ∙ O .paired .one b a′ (turned-sum b a Q)) (O .low .at (sumAt s dead v b a′ * 2 + 0));
+  }
+
+either-low : (q : ℕ) (test : Bool) (x y : ℕ) → x < q → y < q → cond test x y < q
+either-low q true x y h k = h
+either-low q false x y h k = k
 
 -- ---- the definition, by the provider
 
@@ -119,6 +153,30 @@ module _ (c : Code) {s : Shape} {dead : List ℕ} (D : Dead s dead) (v : ℕ) (l
   symbol-layer w b a u d e =
       cond-unequal _ _ w 0 d ∙ ap (λ z. across′ z b (flip (node dead z) a) (layer0′ b (flip (node dead z) a))) e
 
+  -- layer 0 has own symbols and differences
+  module _ (low : Low (c .modulus) pairs) where
+    own-low : (which b a : ℕ) → own′ which b a < c .modulus
+    unfolding own
+    own-low which b a = low .at (sumAt s dead v b a * 2 + which)
+
+    minus-low : (x y : ℕ) → minus (c .modulus) x y < c .modulus
+    unfolding minus
+    minus-low x y = mod-lt (x + (c .modulus - y % c .modulus)) (omega (arith, low .at 0))
+
+    across-low : (u b a first : ℕ) → across′ u b a first < c .modulus
+    unfolding across
+    across-low u b a first = either-low _ (eqb u v) _ _ (own-low 1 b a) (minus-low _ _)
+
+    origin-low : (b a : ℕ) → origin′ b a < c .modulus
+    unfolding origin
+    origin-low b a = either-low _ (eqb (rankClass dead v) 0) _ _ (own-low 0 b a) (minus-low _ _)
+
+    layer0-low : (b a : ℕ) → layer0 c s dead v pairs received b a < c .modulus
+    unfolding layer0
+    layer0-low b a =
+        either-low _ (eqb (classOf dead a) (rankClass dead v)) _ _ (own-low 0 b a)
+        (either-low _ (eqb (classOf dead a) 0) _ _ (origin-low b a) (across-low _ _ _ _))
+
   -- a symbol at the other place of its provider's sum
   symbol-across : (w b a u : ℕ) → w < batch dead → provider dead w a ≡ u → (Origin dead w a → ⊥) → (w ≡ 0 → classOf dead a ≢ rankClass dead v)
       → symbolOf′ w b a ≡ across′ u b (flip (node dead u) a) (layer0′ b (flip (node dead u) a))
@@ -183,6 +241,20 @@ module _ (c : Code) {s : Shape} {dead : List ℕ} (D : Dead s dead) (v : ℕ) (l
       let f = source D u a′ h (S .inside) in
       other (ap₂ (provider dead) (sym (o .0)) (sym (o .2)) ∙ f .0, λ z. f .1 (o .0 ∙ z .0, ap (classOf dead) (o .2) ∙ z .1))
 
+  -- the layer 0 that rank u's sums are taken across was filled by lower ranks
+  first-known : (u : ℕ) (S : List ℕ) → u < length dead → Known c s dead v pairs received u S → (b a : ℕ) → Sum s dead u b a → getD S (sumPlace s dead u 0 b a) 0 ≡ layer0′ b a
+  first-known u S h K b a Q =
+      ap (λ z. getD S z 0) (sum-first s dead u b a)
+      ∙ K .cells 0 b a (batch-pos dead) (Q .batched) (Q .below) (settled (ℕ-discrete (rankClass dead u) 0)) ∙ symbol-zero 0 b a refl
+    where
+      settled : Dec (rankClass dead u ≡ 0) → Settled dead v u 0 a
+      settled (yes z) = inl (refl, inl (Q .inside ∙ z))
+      settled (no z) = inr (inr (rw (provider-zero dead 0 a refl, Q .inside) (turned-before dead u h z)))
+
+  pub next-low : (u : ℕ) (S : List ℕ) → u < length dead → Low (c .modulus) pairs → Known c s dead v pairs received u S → LowAt (c .modulus) s dead u 0 S
+  unfolding sumSymbol
+  next-low u S h low K = record { each = λ b a Q. rw (first-known u S h K b a Q) (layer0-low low b a) }
+
   -- rank u's sums are crossed
   pub crossed-next : (u : ℕ) (S T : List ℕ) → u < length dead → u ≢ v → (rankClass dead v ≢ 0 → u ≢ turningRank dead (rankClass dead v))
       → Known c s dead v pairs received u S → Crossed c s dead u 1 (sentBy s dead v received u) S T → Known c s dead v pairs received (u + 1) T
@@ -192,19 +264,11 @@ module _ (c : Code) {s : Shape} {dead : List ℕ} (D : Dead s dead) (v : ℕ) (l
           → getD T (placeOf s dead w b a) 0 ≡ symbolOf′ w b a
       kept w b a k m n away g = C .rest (placeOf s dead w b a) (elsewhere u w b a h k n away) ∙ K .cells w b a k m n g
 
-      -- the layer 0 that the sum is taken across
-      first : (b a : ℕ) → Sum s dead u b a → getD S (placeOf s dead 0 b a) 0 ≡ layer0′ b a
-      first b a S′ = K .cells 0 b a (batch-pos dead) (S′ .batched) (S′ .below) (settled (ℕ-discrete (rankClass dead u) 0)) ∙ symbol-zero 0 b a refl
-        where
-          settled : Dec (rankClass dead u ≡ 0) → Settled dead v u 0 a
-          settled (yes z) = inl (refl, inl (S′ .inside ∙ z))
-          settled (no z) = inr (inr (rw (provider-zero dead 0 a refl, S′ .inside) (turned-before dead u h z)))
-
       hit : (w b a : ℕ) → w < batch dead → b < s .layers / batch dead → a < 2 ^ s .n → provider dead w a ≡ u → (Origin dead w a → ⊥)
           → getD T (placeOf s dead w b a) 0 ≡ symbolOf′ w b a
       hit w b a k m n e o =
           ap (λ z. getD T z 0) (sym (ends-at u w b a R)) ∙ value
-          ∙ ap₂ (minus (c .modulus)) (sent-is u b a′) (ap (λ z. getD S z 0) (sum-first s dead u b a′) ∙ first b a′ Q)
+          ∙ ap₂ (minus (c .modulus)) (sent-is u b a′) (first-known u S h K b a′ Q)
           ∙ sym (symbol-across w b a u k e o other ∙ across-sent u b a′ (layer0′ b a′) d)
         where
           R : Target D u w a
@@ -267,41 +331,27 @@ module _ (c : Code) {s : Shape} {dead : List ℕ} (D : Dead s dead) (v : ℕ) (l
         → Crossed c s dead (turningRank dead (rankClass dead v)) 0 (sentBy s dead v received (turningRank dead (rankClass dead v))) S T → Known c s dead v pairs received 0 T
     begun-turned z T C = record { long = C .long ∙ G .long; cells = λ w b a k m n g. go w b a k m n g (origin-or-not dead w a) }
       where
-        t : ℕ
-        t = turningRank dead (rankClass dead v)
-
-        r : Rank dead t 0 0
-        r = turning-rank dead (rankClass dead v) (omega arith) (rankClass-le dead v)
+        u : ℕ
+        u = turningRank dead (rankClass dead v)
 
         kept : (w b a : ℕ) → w < batch dead → a < 2 ^ s .n → (Origin dead w a → ⊥) → getD T (placeOf s dead w b a) 0 ≡ getD S (placeOf s dead w b a) 0
         kept w b a k n o =
             C .rest (placeOf s dead w b a)
             (λ b′ a′ Q e.
-            let p = place-own s dead 0 b′ a′ w b a (batch-pos dead) k (Q .below) n (sym (sum-first s dead t b′ a′) ∙ e) in
-            o (sym (p .0), ap (classOf dead) (sym (p .2)) ∙ Q .inside ∙ r .class))
+            let p = place-own s dead 0 b′ a′ w b a (batch-pos dead) k (Q .below) n (sym (sum-first s dead u b′ a′) ∙ e) in
+            o (sym (p .0), ap (classOf dead) (sym (p .2)) ∙ Q .inside ∙ turner D v z .class))
 
         zeroth : (b a : ℕ) → b < s .layers / batch dead → a < 2 ^ s .n → classOf dead a ≡ 0 → getD T (placeOf s dead 0 b a) 0 ≡ layer0′ b a
         zeroth b a m n q =
-            ap (λ x. getD T x 0) (sym (sum-first s dead t b a)) ∙ value
-            ∙ ap₂ (minus (c .modulus)) (sent-is t b a)
-            (ap (λ x. getD S x 0) (sum-other s dead t b a ∙ ap (λ y. placeOf s dead y b a′) (r .partnered)) ∙ own-first b a′ Q′)
+            ap (λ x. getD T x 0) (sym (sum-first s dead u b a)) ∙ value
+            ∙ ap₂ (minus (c .modulus)) (sent-is u b a) (ap (λ x. getD S x 0) (turned-place D v z b a) ∙ own-first b (flip (node dead u) a) (turned-sum D v z b a Q))
             ∙ sym (layer0-origin b a q ∙ origin-sent b a z)
           where
-            a′ : ℕ
-            a′ = flip (node dead t) a
+            Q : Sum s dead u b a
+            Q = record { batched = m; below = n; inside = q ∙ sym (turner D v z .class) }
 
-            Q : Sum s dead t b a
-            Q = record { batched = m; below = n; inside = q ∙ sym (r .class) }
-
-            Q′ : Sum s dead v b a′
-            Q′ = record {
-              batched = m;
-              below = flip-node-lt D t a (r .below) n;
-              inside = class-turned D (rankClass dead v) a (omega arith) (rankClass-le dead v) ∙ ap (λ x. bitXor x (rankClass dead v)) q ∙ xor-zero-l (rankClass dead v);
-            }
-
-            value : getD T (sumPlace s dead t 0 b a) 0 ≡ minus (c .modulus) (sentBy s dead v received t (sumAt s dead t b a)) (getD S (sumPlace s dead t 1 b a) 0)
-            value = crossed-each c s dead t 0 _ S T C b a Q
+            value : getD T (sumPlace s dead u 0 b a) 0 ≡ minus (c .modulus) (sentBy s dead v received u (sumAt s dead u b a)) (getD S (sumPlace s dead u 1 b a) 0)
+            value = crossed-each c s dead u 0 _ S T C b a Q
 
         go : (w b a : ℕ) → w < batch dead → b < s .layers / batch dead → a < 2 ^ s .n → Settled dead v 0 w a → Origin dead w a ⊎ (Origin dead w a → ⊥)
             → getD T (placeOf s dead w b a) 0 ≡ symbolOf′ w b a

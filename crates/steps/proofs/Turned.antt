@@ -32,8 +32,8 @@ use Rattle.classes.proofs.Sums.{member-lt, member-at, sumAt-is, sumAt-all}
 use Rattle.classes.proofs.Layouts.{ready-dead, bounded, placed, share-high}
 use Rattle.classes.proofs.Messages.{messageAt, message-table, spot-number}
 use Rattle.classes.proofs.Members.{member-is, member-sum, members-few}
-use Rattle.steps.specs.Storing.{sumSymbol, Paired, Crossed}
-use Rattle.batches.specs.Batches.{turned, Apart, addedIn, PairedIn, leftIn, Stored}
+use Rattle.steps.specs.Storing.{sumSymbol, Paired, LowAt, Crossed}
+use Rattle.batches.specs.Batches.{turned, Apart, addedIn, PairedIn, LowNear, leftIn, Stored}
 use Rattle.steps.proofs.Parts.{row-within}
 use Rattle.batches.proofs.Batches.{turned-is, turned-none}
 use Rattle.steps.proofs.Pieces.{Pieces}
@@ -145,6 +145,15 @@ module _ {dead : List ℕ} {g : Layout} (R : Ready dead g) (u : ℕ) (l : u < le
     apart = λ x y k m e.
         sums-apart (ready-dead R) u l b (getD M x 0) b (getD M y 0) (sum-of b x h k) (sum-of b y h m) which t
         (sym (turned-place b x h k (1 - which) (omega arith) .1) ∙ ap (λ z. b * block + z) e ∙ turned-place b y h m which t .1);
+  }
+
+  pub low-in : (q b : ℕ) → b < g .batches → (which : ℕ) → which < 2 → (symbols : List ℕ) → LowAt q (g .shape) dead u which symbols
+      → LowNear q (own (g .shape) dead u) (turnOf (g .shape) dead u * which) (piece (g .batch * g .places) b symbols)
+  unfolding sumSymbol
+  low-in q b h which t symbols L = record {
+    each = λ x k.
+        let p = turned-place b x h k which t in
+        rw (piece-at block b symbols (turned M (T * which) x) 0 (p .0) ∙ ap (λ z. getD symbols z 0) (p .1)) (L .each b (getD M x 0) (sum-of b x h k));
   }
 
   -- a sum by its batch and its number in the class
@@ -315,6 +324,10 @@ module _ {dead : List ℕ} {g : Layout} (R : Ready dead g) (u : ℕ) (l : u < le
 
   pub apart-by : (b : ℕ) → b < g .batches → (which : ℕ) → which < 2 → Apart (take count table) (turn * (1 - which)) (turn * which) (g .batch * g .places)
   apart-by b h which k = rw (K .front, K .turn-is) (apart-in R u l b h which k)
+
+  pub low-by : (q b : ℕ) → b < g .batches → (which : ℕ) → which < 2 → (symbols : List ℕ) → LowAt q (g .shape) dead u which symbols
+      → LowNear q (take count table) (turn * which) (piece (g .batch * g .places) b symbols)
+  low-by q b h which k symbols L = rw (K .front, K .turn-is) (low-in R u l q b h which k symbols L)
 
   pub apart-other : (b : ℕ) → b < g .batches → Apart (take count table) 0 turn (g .batch * g .places)
   apart-other b h = rw (mul-zero, mul-one) at (apart-by b h 1 (omega arith))

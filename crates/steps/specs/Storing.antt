@@ -1,11 +1,12 @@
 -- What the loops over a rank's sums store in the N symbols of a node.
 use mathlib.Core.Path.{_≡_}
 use mathlib.Core.List.{List}
-use Prim.Native.Nat.{ℕ, _+_, _*_, _-_}
+use Prim.Native.Nat.{ℕ, _+_, _*_, _-_, _<_}
 use lib.ListN.{length, getD}
 use Rattle.field.specs.Residues.{minus}
 use Rattle.shape.specs.declared.Shape.{Shape}
 use Rattle.shape.specs.Shape.{size}
+use Rattle.rows.specs.Rows.{Low}
 use Rattle.code.specs.Code.{Code}
 use Rattle.classes.specs.Classes.{rankClass, turningRank, Sum, sumAt, sumPlace, messageSize}
 use Rattle.classes.specs.Steps.{place, contents}
@@ -19,6 +20,16 @@ pub record Paired (s : Shape) (dead : List ℕ) (u : ℕ) (pairs symbols : List 
   pub long : length symbols ≡ size s
   pub one : (b a : ℕ) → Sum s dead u b a → sumSymbol s dead u 0 b a symbols ≡ getD pairs (sumAt s dead u b a * 2 + 0) 0
   pub other : (b a : ℕ) → Sum s dead u b a → sumSymbol s dead u 1 b a symbols ≡ getD pairs (sumAt s dead u b a * 2 + 1) 0
+
+-- and all pairs are below q
+pub record OwnLow (q : ℕ) (s : Shape) (dead : List ℕ) (u : ℕ) (symbols : List ℕ) : Type 0 where
+  pub pairs : List ℕ
+  pub paired : Paired s dead u pairs symbols
+  pub low : Low q pairs
+
+-- the symbols at the places `which` of rank u's sums are below q
+pub record LowAt (q : ℕ) (s : Shape) (dead : List ℕ) (u which : ℕ) (symbols : List ℕ) : Type 0 where
+  pub each : (b a : ℕ) → Sum s dead u b a → sumSymbol s dead u which b a symbols < q
 
 -- what rank u sent of its sum x, of the messages that rank v received
 unfoldable pub sentBy : Shape → List ℕ → ℕ → List ℕ → ℕ → ℕ → ℕ

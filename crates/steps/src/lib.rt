@@ -17,7 +17,8 @@ ghost use Rattle.shape.specs.Shape.{size};
 ghost use Rattle.classes.specs.Classes.{rankClass, messageSize};
 ghost use Rattle.classes.specs.Steps.{helperMessage, contents};
 ghost use Rattle.classes.specs.Layout.{Ready, Fronted};
-ghost use Rattle.steps.specs.Storing.{Paired, sentBy, Crossed, Begun, Recovers};
+ghost use Rattle.steps.specs.Storing.{Paired, OwnLow, LowAt, sentBy, Crossed, Begun, Recovers};
+ghost use Rattle.rows.specs.Rows.{Low};
 ghost use Rattle.code.specs.Code.{narrow};
 
 // The places of a small shape's layer.
@@ -111,6 +112,7 @@ fn cross(
     symbols: &mut [u16],
 )
     requires { ⌜ (Ready (now dead) g) × (u < length (now dead)) × (g .places ≤ length (now table)) × (Fronted (now dead) (rankClass (now dead) u) (g .shape .n) (now table)) × (which < 2) × (length (now sums) ≡ messageSize (g .shape) (now dead)) × (length (now symbols) ≡ size (g .shape)) ⌝ }
+    requires { ⌜ (Low (narrow .modulus) (now sums)) × (LowAt (narrow .modulus) (g .shape) (now dead) u (1 - which) (now symbols)) ⌝ }
     ensures { λ _. ⌜ Crossed narrow (g .shape) (now (dead .entry)) u which (element (now (sums .entry))) (now (symbols .entry)) (now (symbols .exit)) ⌝ }
 {
     let count = class_size(g, dead);
@@ -147,6 +149,7 @@ fn cross_from(
 )
     requires { ⌜ (Ready (now dead) g) × (v < length (now dead)) × (u < length (now dead)) × (u ≡ v → ⊥) × (which < 2) × (g .places ≤ length (now table)) × (Fronted (now dead) (rankClass (now dead) u) (g .shape .n) (now table)) ⌝ }
     requires { ⌜ (length (now received) ≡ (length (now dead) - 1) * messageSize (g .shape) (now dead)) × (length (now symbols) ≡ size (g .shape)) ⌝ }
+    requires { ⌜ (Low (narrow .modulus) (now received)) × (LowAt (narrow .modulus) (g .shape) (now dead) u (1 - which) (now symbols)) ⌝ }
     ensures { λ _. ⌜ Crossed narrow (g .shape) (now (dead .entry)) u which (sentBy (g .shape) (now (dead .entry)) v (now (received .entry)) u) (now (symbols .entry)) (now (symbols .exit)) ⌝ }
 {
     let share = g.share;
@@ -167,6 +170,7 @@ fn begin(
 ) -> usize
     requires { ⌜ (Ready (now dead) g) × (v < length (now dead)) × (g .places ≤ length (now table)) × (Fronted (now dead) 0 (g .shape .n) (now table)) ⌝ }
     requires { ⌜ (length (now received) ≡ (length (now dead) - 1) * messageSize (g .shape) (now dead)) × (length (now symbols) ≡ size (g .shape)) ⌝ }
+    requires { ⌜ (Low (narrow .modulus) (now received)) × (OwnLow (narrow .modulus) (g .shape) (now dead) v (now symbols)) ⌝ }
     ensures { λ r. ⌜ Begun narrow (g .shape) (now (dead .entry)) v (now (received .entry)) (now (symbols .entry)) (now (symbols .exit)) r ⌝ }
 {
     let batch = g.batch;
@@ -203,6 +207,7 @@ fn recover_with(
 )
     requires { ⌜ (Ready (now dead) g) × (v < length (now dead)) × (g .places ≤ length (now table)) × (Fronted (now dead) held (g .shape .n) (now table)) ⌝ }
     requires { ⌜ (length (now received) ≡ (length (now dead) - 1) * messageSize (g .shape) (now dead)) × (length (now symbols) ≡ size (g .shape)) ⌝ }
+    requires { ⌜ (Low (narrow .modulus) (now received)) × (OwnLow (narrow .modulus) (g .shape) (now dead) v (now symbols)) ⌝ }
     ensures { λ _. ⌜ Recovers narrow (g .shape) (now (dead .entry)) v (now (received .entry)) (now (symbols .entry)) (now (symbols .exit)) ⌝ }
 {
     relist(g, dead, held, 0, table);
@@ -223,6 +228,7 @@ fn recover_with(
 pub fn recover(g: Layout, dead: &[usize], v: usize, received: &[u16], symbols: &mut [u16])
     requires { ⌜ (Ready (now dead) g) × (v < length (now dead)) ⌝ }
     requires { ⌜ (length (now received) ≡ (length (now dead) - 1) * messageSize (g .shape) (now dead)) × (length (now symbols) ≡ size (g .shape)) ⌝ }
+    requires { ⌜ (Low (narrow .modulus) (now received)) × (OwnLow (narrow .modulus) (g .shape) (now dead) v (now symbols)) ⌝ }
     ensures { λ _. ⌜ Recovers narrow (g .shape) (now (dead .entry)) v (now (received .entry)) (now (symbols .entry)) (now (symbols .exit)) ⌝ }
 {
     if g.places <= FEW {
@@ -248,6 +254,7 @@ fn second_with(
 )
     requires { ⌜ (Ready (now dead) g) × (v < length (now dead)) × (g .places ≤ length (now table)) × (length (now pairs) ≡ 2 * messageSize (g .shape) (now dead)) ⌝ }
     requires { ⌜ (length (now received) ≡ (length (now dead) - 1) * messageSize (g .shape) (now dead)) × (length (now symbols) ≡ size (g .shape)) ⌝ }
+    requires { ⌜ (Low (narrow .modulus) (now pairs)) × (Low (narrow .modulus) (now received)) ⌝ }
     ensures { λ _. ⌜ now (symbols .exit) ≡ contents narrow (g .shape) (now (dead .entry)) v (now (pairs .entry)) (now (received .entry)) ⌝ }
 {
     pairs_with(g, dead, v, table, pairs, symbols);
@@ -266,6 +273,7 @@ pub fn second(
 )
     requires { ⌜ (Ready (now dead) g) × (v < length (now dead)) × (length (now pairs) ≡ 2 * messageSize (g .shape) (now dead)) ⌝ }
     requires { ⌜ (length (now received) ≡ (length (now dead) - 1) * messageSize (g .shape) (now dead)) × (length (now symbols) ≡ size (g .shape)) ⌝ }
+    requires { ⌜ (Low (narrow .modulus) (now pairs)) × (Low (narrow .modulus) (now received)) ⌝ }
     ensures { λ _. ⌜ now (symbols .exit) ≡ contents narrow (g .shape) (now (dead .entry)) v (now (pairs .entry)) (now (received .entry)) ⌝ }
 {
     if g.places <= FEW {

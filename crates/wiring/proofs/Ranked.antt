@@ -112,6 +112,10 @@ module _ (s : Shape) (dead : List ℕ) where
   pub renewing-none : (nodes wire : List ℕ) → Renewing 0 nodes nodes wire
   renewing-none nodes wire = record { long = refl; new = λ t l. absurd (omega arith); kept = λ i l d. refl }
 
+  -- a rank's node is as it was before its own second step
+  pub renewing-own : Dead s dead → (u : ℕ) → u < length dead → (nodes₀ nodes wire : List ℕ) → Renewing u nodes₀ nodes wire → piece (size s) (node dead u) nodes ≡ piece (size s) (node dead u) nodes₀
+  renewing-own D u l nodes₀ nodes wire E = E .kept (node dead u) (node-below D u l) (λ t k m. node-own D t u m l (λ e. omega arith))
+
   pub renewing-more : Dead s dead → (u : ℕ) → u < length dead → (nodes₀ nodes wire p : List ℕ) → length nodes₀ ≡ s .n * size s → length p ≡ size s
       → Renewing u nodes₀ nodes wire → Recovers narrow s dead u (fromOthers s dead u wire) (piece (size s) (node dead u) nodes) p
       → Renewing (u + 1) nodes₀ (putMid (node dead u * size s) (node dead u * size s + size s - node dead u * size s) nodes p) wire
@@ -127,13 +131,10 @@ module _ (s : Shape) (dead : List ℕ) where
       whole : length nodes ≡ s .n * size s
       whole = E .long ∙ all
 
-      before : piece (size s) (node dead u) nodes ≡ piece (size s) (node dead u) nodes₀
-      before = E .kept (node dead u) i-low′ (λ t k m. node-own D t u m l (λ e. omega arith))
-
       mine : (t : ℕ) → t < u + 1 → t < length dead → Dec (t ≡ u) → (pairs : List ℕ) → Paired s dead t pairs (piece (size s) (node dead t) nodes₀)
           → piece (size s) (node dead t) (putMid (node dead u * size s) (node dead u * size s + size s - node dead u * size s) nodes p) ≡ contents narrow s dead t pairs (fromOthers s dead t wire)
       mine t k m (yes e) pairs P =
-          rw e (put-piece (s .n) (size s) (node dead u) nodes p i-low′ whole long ∙ F .whole pairs (rw before (subst (λ z. Paired s dead z pairs (piece (size s) (node dead z) nodes₀)) e P)))
+          rw e (put-piece (s .n) (size s) (node dead u) nodes p i-low′ whole long ∙ F .whole pairs (rw (renewing-own D u l nodes₀ nodes wire E) (subst (λ z. Paired s dead z pairs (piece (size s) (node dead z) nodes₀)) e P)))
       mine t k m (no e) pairs P =
           let b : t < u = omega arith in
           put-other (s .n) (size s) (node dead u) nodes p i-low′ whole long (node dead t) (node-below D t m) (node-own D t u m l e) ∙ E .new t b m pairs P

@@ -10,11 +10,12 @@ use Rattle.column.specs.declared.Outcome.{Outcome}
 use Rattle.column.specs.declared.Outcome.the-variants.{Solved}
 use Rattle.shape.specs.declared.Shape.{Shape}
 use Rattle.shape.specs.Shape.{size}
+use Rattle.rows.specs.Rows.{Low}
 use Rattle.code.specs.Code.{narrow}
 use Rattle.classes.specs.Classes.{node, spotAt, messageSize}
 use Rattle.classes.specs.Steps.{solved, ownPairs, contents}
 use Rattle.classes.specs.Whole.{fromHelpers}
-use Rattle.steps.specs.Storing.{Paired}
+use Rattle.steps.specs.Storing.{Paired, OwnLow}
 use Rattle.solving.specs.Solving.{slotOf, Helped, HandedOut, Owned}
 
 -- how many symbols the helpers' messages have: to one rank, and to all
@@ -87,6 +88,11 @@ pub record Exchanged (s : Shape) (dead helpers : List ℕ) (nodes nodes-after wi
 -- the messages to rank u from the other new nodes
 unfoldable pub fromOthers : Shape → List ℕ → ℕ → List ℕ → List ℕ
 fromOthers s dead u wire = piece ((length dead - 1) * messageSize s dead) u (drop (inwards s dead) wire)
+
+-- every rank's own pairs stand at their places in its node, and they and the messages to it from the others are below the modulus
+pub record Renewable (s : Shape) (dead nodes wire : List ℕ) : Type 0 where
+  pub own : (u : ℕ) → u < length dead → OwnLow (narrow .modulus) s dead u (piece (size s) (node dead u) nodes)
+  pub received : (u : ℕ) → u < length dead → Low (narrow .modulus) (fromOthers s dead u wire)
 
 -- every rank's second step
 pub record Renewed (s : Shape) (dead : List ℕ) (nodes nodes-after wire : List ℕ) : Type 0 where

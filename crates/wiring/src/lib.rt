@@ -28,7 +28,7 @@ ghost use Rattle.classes.specs.Classes.{rankClass, members, sumPlace, messageSi
 ghost use Rattle.classes.specs.Layout.{Ready, Listed};
 ghost use Rattle.classes.specs.Whole.{fromHelpers};
 ghost use Rattle.solving.specs.Solving.{Multiplied};
-ghost use Rattle.wiring.specs.Wires.{inward, inwards, Messaged, Wired, Offsets, OnWire, FirstOnWire, Exchanged, Renewed};
+ghost use Rattle.wiring.specs.Wires.{inward, inwards, Messaged, Wired, Offsets, OnWire, FirstOnWire, Exchanged, Renewable, Renewed};
 
 // The symbols of the helpers' messages to one rank.
 pub fn told_by(g: Layout, dead: &[usize], helpers: &[usize]) -> usize
@@ -257,7 +257,7 @@ pub fn exchange(
 
 // Every rank's second step, from its own pairs at their places and its messages on the wire.
 pub fn renew(g: Layout, dead: &[usize], told: usize, nodes: &mut [u16], wire: &[u16])
-    requires { ⌜ (Ready (now dead) g) × (told ≡ inward (g .shape) (now dead)) × (length (now nodes) ≡ g .shape .n * size (g .shape)) × (length (now wire) ≡ inwards (g .shape) (now dead) + length (now dead) * (length (now dead) - 1) * messageSize (g .shape) (now dead)) ⌝ }
+    requires { ⌜ (Ready (now dead) g) × (told ≡ inward (g .shape) (now dead)) × (length (now nodes) ≡ g .shape .n * size (g .shape)) × (length (now wire) ≡ inwards (g .shape) (now dead) + length (now dead) * (length (now dead) - 1) * messageSize (g .shape) (now dead)) × (Renewable (g .shape) (now dead) (now nodes) (now wire)) ⌝ }
     ensures { λ _. ⌜ Renewed (g .shape) (now (dead .entry)) (now (nodes .entry)) (now (nodes .exit)) (now (wire .entry)) ⌝ }
 {
     let full = size(g.shape);

@@ -31,7 +31,20 @@ here c =
     let st = c .before .before .before .before .before in
     let x = c .before .loop .x in
     let l : x < length (st .args .members .now) = omega arith in
-    rw (c .before .loop .inv .2 .long) (rw turned-is at (st .pre .0 .near-low x l), rw turned-is at (st .pre .0 .far-low x l))
+    rw (c .before .loop .inv .2 .long) (rw turned-is at (st .pre .0 .0 .near-low x l), rw turned-is at (st .pre .0 .0 .far-low x l))
+
+-- what stands at the near place was there before
+near-kept : (c : tie.In-loop Inv-loop μ-loop) →
+    let a = c .before .before .before .before .before .args in
+    let x = c .before .loop .x in
+    getD (c .before .loop .symbols) (bitXor (getD (a .members .now) x 0) (a .near)) 0 ≡ getD (a .symbols .now) (turned (a .members .now) (a .near) x) 0
+near-kept c =
+    let st = c .before .before .before .before .before in
+    let a = st .args in
+    let l = c .before .loop in
+    let k : l .x < length (a .members .now) = omega arith in
+    ap (λ z. getD (l .symbols) z 0) (sym (turned-is (a .members .now) (a .near) (l .x)))
+    ∙ l .inv .2 .rest (turned (a .members .now) (a .near) (l .x)) (λ x h z. st .pre .0 .0 .apart (l .x) x k (omega arith) (sym z))
 
 cast-a : tie.Need-cast-a Inv-loop μ-loop
 cast-a c = omega (arith, c .shared-slice-known3 .given (c .before .before .loop .x))
@@ -41,6 +54,12 @@ mul-difference-2 c = omega (arith, here (c .before .before) .0)
 
 slice-read-difference : tie.Need-slice-read-difference Inv-loop μ-loop
 slice-read-difference c = here (c .before .before .before) .0
+
+difference-requires : tie.Need-difference-requires Inv-loop μ-loop
+difference-requires c κs =
+    let i = c .before .before .before in
+    let st = i .before .before .before .before .before in
+    (st .pre .1 .0 .at (i .before .loop .x), rw (near-kept i) (st .pre .1 .1 .each (i .before .loop .x) (omega arith)))
 
 mul-symbols : tie.Need-mul-symbols Inv-loop μ-loop
 mul-symbols c = omega (arith, here (c .before .before .before .before) .1)
@@ -54,7 +73,7 @@ loop-again c =
     let l = c .before .before .before .before .before .loop in
     let st = c .before .before .before .before .before .before .before .before .before in
     let a = st .args in
-    let A = st .pre .0 in
+    let A = st .pre .0 .0 in
     let k : l .x < length (a .members .now) = omega arith in (
       search needs,
       refl,
@@ -62,9 +81,7 @@ loop-again c =
           (sym (turned-is _ _ _)) (rw (← (l .inv .2 .long)) (here (c .before .before .before .before) .1))
           (λ x h z. let e : x ≡ l .x = A .own x (l .x) (omega arith) k z in omega arith)
           (c .difference .ensures
-          ∙ ap (minus (narrow .modulus) (getD (a .sums .now) (l .x) 0))
-          (ap (λ z. getD (l .symbols) z 0) (sym (turned-is (a .members .now) (a .near) (l .x)))
-          ∙ l .inv .2 .rest (turned (a .members .now) (a .near) (l .x)) (λ x h z. A .apart (l .x) x k (omega arith) (sym z)))),
+          ∙ ap (minus (narrow .modulus) (getD (a .sums .now) (l .x) 0)) (near-kept (c .before .before .before .before))),
     )
 
 same-length : tie.Need-same-length Inv-loop μ-loop
@@ -91,7 +108,7 @@ cross-batch-spec =
     (λ c. search needs)
     mul-difference-2
     slice-read-difference
-    (λ c κs. search needs)
+    difference-requires
     mul-symbols
     slice-write-symbols
     (λ c. search needs)

@@ -1,6 +1,6 @@
 -- `repair::repair` meets its contract: turned back, or the wire and the nodes of the whole repair, assembled. Assumes nothing.
 use mathlib.Core.Path.{_≡_, sym, ap, _∙_}
-use Prim.Native.Nat.{ℕ, _-_}
+use Prim.Native.Nat.{ℕ}
 use native.Mathlib.Omega.{arith}
 use borrow.Author.Needs.{needs}
 use lib.ListN.{length}
@@ -9,7 +9,7 @@ use Rattle.code.specs.Code.{narrow}
 use Rattle.judging.specs.Refusals.{wholeRefusal}
 use Rattle.judging.proofs.Judged.{turned-back, turned-number, lists-ready, lists-accepted, WholePassed, whole-passed}
 use Rattle.repair.proofs.Promised.{repaired-promise}
-use Rattle.repair.proofs.Assembly.{wire-due, wired, wire-is, nodes-are}
+use Rattle.repair.proofs.Assembly.{wire-due, wired, wire-is, renewable, nodes-are}
 use Rattle.repair.proofs.repair.Statement.{statement}
 use Rattle.repair.proofs.repair.Tie as tie
 
@@ -66,7 +66,13 @@ renew-requires c κs =
     let A = lists-accepted _ _ _ _ (k .listed) in
     let g = c .before .before .before .before .before .before .before .before .before .before .before .before .before .before .before .before .before .laid-out .ensures in
     let E = c .before .before .before .before .before .before .before .before .exchange .ensures in
-    (g .1, c .before .before .before .before .before .before .before .before .before .before .before .before .before .before .before .before .told-by .ensures, rw (g .0) (E .nodes-long ∙ k .long), rw (g .0) (E .long ∙ c .before .before .before .before .before .before .before .before .before .before .before .before .before .send .ensures .long ∙ k .due ∙ wire-due _ _ (A .lists .some-dead)))
+    let G = c .before .before .before .before .before .before .before .before .before .before .before .before .before .send .ensures in (
+      g .1,
+      c .before .before .before .before .before .before .before .before .before .before .before .before .before .before .before .before .told-by .ensures,
+      rw (g .0) (E .nodes-long ∙ k .long),
+      rw (g .0) (E .long ∙ G .long ∙ k .due ∙ wire-due _ _ (A .lists .some-dead)),
+      rw (g .0) (renewable _ _ _ _ _ _ A (k .due) (rw (g .0) at G) _ _ _ (rw (g .0) at E)),
+    )
 
 returns-3 : tie.Need-returns-3
 returns-3 c =
@@ -77,8 +83,8 @@ returns-3 c =
     let G = rw g at (c .before .before .before .before .before .before .before .before .before .before .before .before .before .before .before .before .send .ensures) in
     let E = rw g at (c .before .before .before .before .before .before .before .before .before .before .before .exchange .ensures) in
     let R = rw g at (c .before .before .renew .ensures) in
-    let w = wire-is _ _ _ _ _ _ A (k .due) G _ _ _ _ (k .long) E R in
-    let n = nodes-are _ _ _ _ _ _ A (k .due) G _ _ _ _ (k .long) E R in
+    let w = wire-is _ _ _ _ _ _ A (k .due) G _ _ _ E in
+    let n = nodes-are _ _ _ _ _ _ A (k .due) G _ _ _ E _ (k .long) R in
     repaired-promise _ _ _ _ _ _ _ e w n
 
 pub repair-spec : {M : Type 1} → statement M

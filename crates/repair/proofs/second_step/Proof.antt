@@ -1,9 +1,11 @@
 -- `repair::second_step` meets its contract: turned back, or all symbols of the new node's rank. Assumes nothing.
 use mathlib.Core.Path.{_≡_, sym, ap, ap₂, _∙_}
+use native.Mathlib.Omega.{arith}
 use borrow.Author.Needs.{needs}
 use lib.ListN.{length}
 use Rattle.shape.specs.Refusals.{answerNumber}
 use Rattle.shape.proofs.Answers.{afterwards-done}
+use Rattle.rows.proofs.Rows.{low-each}
 use Rattle.code.specs.Code.{narrow}
 use Rattle.classes.specs.Steps.{contents}
 use Rattle.judging.specs.Refusals.{secondStepRefusal}
@@ -34,7 +36,7 @@ second-requires : tie.Need-second-requires
 second-requires c κs =
     let k = known (c .before .before .before) in
     let g = c .before .before .laid-out .ensures in
-    ((g .1, c .before .rank-of .ensures .0, rw (g .0) (k .pairs-long)), (rw (g .0) (k .received-long), rw (g .0) (k .due)))
+    ((g .1, c .before .rank-of .ensures .0, rw (g .0) (k .pairs-long)), ((rw (g .0) (k .received-long), rw (g .0) (k .due)), (low-each _ _ (omega arith) (k .pairs-below), low-each _ _ (omega arith) (k .received-below))))
 
 returns-2 : tie.Need-returns-2
 returns-2 c =

@@ -4,8 +4,9 @@ use Prim.Native.Nat.{_-_, _*_}
 use native.Mathlib.Omega.{arith}
 use borrow.Author.Needs.{needs}
 use Rattle.classes.specs.Classes.{rankClass, turningRank}
-use Rattle.classes.proofs.Layouts.{bounded}
+use Rattle.classes.proofs.Layouts.{ready-dead, bounded}
 use Rattle.classes.proofs.Ranks.{Rank, turning-rank, rankClass-le}
+use Rattle.steps.proofs.Recovery.{begin-low}
 use Rattle.steps.proofs.begin.Statement.{statement}
 use Rattle.steps.proofs.begin.Tie as tie
 
@@ -35,7 +36,7 @@ cross-from-requires c κs =
     let t = turned (c .before) in
     let z = c .before .if1 .left in (
       (p .0, p .1, rw (t .0) (t .1 .below), λ e. z (c .before .before .rank-class .ensures ∙ ap (rankClass (st .args .dead .now)) (sym e ∙ t .0) ∙ t .1 .class), omega arith, p .2, rw (t .0, t .1 .class) (p .3)),
-      st .pre .1,
+      (st .pre .1 .0, (st .pre .1 .1 .0, rw (t .0) (begin-low (ready-dead (p .0)) _ (λ e. z (c .before .before .rank-class .ensures ∙ e)) _ _ (st .pre .1 .1 .1)))),
     )
 
 returns-2 : tie.Need-returns-2

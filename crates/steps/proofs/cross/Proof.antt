@@ -5,11 +5,12 @@ use native.Mathlib.Nat.{mul-le-mul}
 use native.Mathlib.Omega.{arith}
 use lib.ListN.{length, take, drop, length-take, length-drop}
 use Rattle.lists.specs.Lists.{piece}
+use Rattle.rows.proofs.Rows.{low-part}
 use Rattle.code.specs.Code.{narrow}
 use Rattle.classes.proofs.Layouts.{bounded}
 use Rattle.steps.proofs.Parts.{piece-part}
 use Rattle.steps.proofs.Pieces.{Pieces, pieces-none, pieces-more}
-use Rattle.steps.proofs.Turned.{BatchCrossed, turn-high, Tabled, tabled, Room, room, blocks-are, apart-by, crossed-done}
+use Rattle.steps.proofs.Turned.{BatchCrossed, turn-high, Tabled, tabled, Room, room, blocks-are, apart-by, low-by, crossed-done}
 use borrow.Author.Needs.{needs}
 use Rattle.steps.proofs.cross.Statement.{statement}
 use Rattle.steps.proofs.cross.Tie as tie
@@ -25,20 +26,20 @@ abbrev μ-loop : tie.MeasureT-loop
 known : (c : tie.At-loop Inv-loop μ-loop) → let a = c .before .before .before .before .before .before .before .before .args in Tabled (a .dead .now) (a .g) (a .u) (c .before .before .before .before .before .before .before .before .args .table .now) (c .before .before .before .class-size .result) (c .before .before .turn-of .result)
 known c =
     let st = c .before .before .before .before .before .before .before .before in
-    tabled (st .pre .0) (st .args .u) _ _ _ (st .args .table .now) refl (st .pre .3) (st .pre .2) (c .before .before .before .class-size .ensures) (c .before .before .turn-of .ensures)
+    tabled (st .pre .0 .0) (st .args .u) _ _ _ (st .args .table .now) refl (st .pre .0 .3) (st .pre .0 .2) (c .before .before .before .class-size .ensures) (c .before .before .turn-of .ensures)
 
 -- the batch's parts are within their buffers
 part : (c : tie.In-loop Inv-loop μ-loop) → let a = c .before .before .before .before .before .before .before .before .before .args in Room (a .dead .now) (a .g) (c .before .loop .b) (c .before .before .before .before .class-size .result)
-part c = let st = c .before .before .before .before .before .before .before .before .before in room (st .pre .0) _ (st .pre .1) _ _ _ (known (c .before)) (c .before .loop .b) (omega arith)
+part c = let st = c .before .before .before .before .before .before .before .before .before in room (st .pre .0 .0) _ (st .pre .0 .1) _ _ _ (known (c .before)) (c .before .loop .b) (omega arith)
 
 mul-near : tie.Need-mul-near Inv-loop μ-loop
-mul-near c = let st = c .before .before .before .before .before .before in omega (arith, turn-high (st .pre .0) (st .args .u) (c .turn-of .result) (1 - st .args .which) (st .pre .1) (c .turn-of .ensures) (omega arith))
+mul-near c = let st = c .before .before .before .before .before .before in omega (arith, turn-high (st .pre .0 .0) (st .args .u) (c .turn-of .result) (1 - st .args .which) (st .pre .0 .1) (c .turn-of .ensures) (omega arith))
 
 mul-far : tie.Need-mul-far Inv-loop μ-loop
-mul-far c = let st = c .before .before .before .before .before .before in omega (arith, turn-high (st .pre .0) (st .args .u) (c .turn-of .result) (st .args .which) (st .pre .1) (c .turn-of .ensures) (st .pre .4))
+mul-far c = let st = c .before .before .before .before .before .before in omega (arith, turn-high (st .pre .0 .0) (st .args .u) (c .turn-of .result) (st .args .which) (st .pre .0 .1) (c .turn-of .ensures) (st .pre .0 .4))
 
 mul-block : tie.Need-mul-block Inv-loop μ-loop
-mul-block c = let b = bounded (c .before .before .before .before .before .before .before .pre .0) in omega (arith, mul-le-mul {n₂ = 12} {m₂ = 4096} (b .batch-high) (b .places-high))
+mul-block c = let b = bounded (c .before .before .before .before .before .before .before .pre .0 .0) in omega (arith, mul-le-mul {n₂ = 12} {m₂ = 4096} (b .batch-high) (b .places-high))
 
 loop-holds : tie.Need-loop-holds Inv-loop μ-loop
 loop-holds c = (search needs, pieces-none _ _ _ _)
@@ -62,13 +63,13 @@ mul-cross-batch : tie.Need-mul-cross-batch Inv-loop μ-loop
 mul-cross-batch c = omega (arith, part (c .before))
 
 part-cross-batch-end : tie.Need-part-cross-batch-end Inv-loop μ-loop
-part-cross-batch-end c = omega (arith, part (c .before), c .before .before .before .before .before .before .before .before .before .before .pre .5)
+part-cross-batch-end c = omega (arith, part (c .before), c .before .before .before .before .before .before .before .before .before .before .pre .0 .5)
 
 mul-cross-batch-2 : tie.Need-mul-cross-batch-2 Inv-loop μ-loop
 mul-cross-batch-2 c = omega (arith, part (c .before .before))
 
 part-cross-batch-end-2 : tie.Need-part-cross-batch-end-2 Inv-loop μ-loop
-part-cross-batch-end-2 c = let r = part (c .before .before) in omega (arith, r .block, c .before .before .before .before .before .before .before .before .before .before .before .pre .6, c .before .before .before .loop .inv .1 .long)
+part-cross-batch-end-2 c = let r = part (c .before .before) in omega (arith, r .block, c .before .before .before .before .before .before .before .before .before .before .before .pre .0 .6, c .before .before .before .loop .inv .1 .long)
 
 cross-batch-requires : tie.Need-cross-batch-requires Inv-loop μ-loop
 cross-batch-requires c κs =
@@ -82,9 +83,14 @@ cross-batch-requires c κs =
     let turn = i .before .before .before .turn-of .result in
     let r = part i in
     let n : length members ≡ count = ap length (k .front) ∙ sym (k .count-is) in
-    let long : length (take (l .b * block + block - l .b * block) (drop (l .b * block) (l .symbols))) ≡ block = simp (length-take, length-drop) (omega (arith, r .block, st .pre .6, l .inv .1 .long)) in
-    let h : l .b < st .args .g .batches = omega arith in
-    (rw long (apart-by (st .pre .0) _ (st .pre .1) _ _ _ k (l .b) h (st .args .which) (st .pre .4)), rw n (simp (length-take, length-drop) (omega (arith, r .sums, st .pre .5))))
+    let long : length (take (l .b * block + block - l .b * block) (drop (l .b * block) (l .symbols))) ≡ block = simp (length-take, length-drop) (omega (arith, r .block, st .pre .0 .6, l .inv .1 .long)) in
+    let h : l .b < st .args .g .batches = omega arith in (
+      (rw long (apart-by (st .pre .0 .0) _ (st .pre .0 .1) _ _ _ k (l .b) h (st .args .which) (st .pre .0 .4)), rw n (simp (length-take, length-drop) (omega (arith, r .sums, st .pre .0 .5)))),
+      (
+        low-part _ (l .b * count + count - l .b * count) (l .b * count) _ (st .pre .1 .0),
+        rw (piece-part block (l .b) (l .symbols) ∙ l .inv .1 .left (l .b) (omega arith) h) (low-by (st .pre .0 .0) _ (st .pre .0 .1) _ _ _ k _ (l .b) h (1 - st .args .which) (omega arith) _ (st .pre .1 .1)),
+      ),
+    )
 
 loop-again : tie.Need-loop-again Inv-loop μ-loop
 loop-again c =
@@ -98,13 +104,13 @@ loop-again c =
     let turn = i .before .before .before .turn-of .result in
     let r = part i in
     let n : length members ≡ count = ap length (k .front) ∙ sym (k .count-is) in
-    let long : length (take (l .b * block + block - l .b * block) (drop (l .b * block) (l .symbols))) ≡ block = simp (length-take, length-drop) (omega (arith, r .block, st .pre .6, l .inv .1 .long)) in
+    let long : length (take (l .b * block + block - l .b * block) (drop (l .b * block) (l .symbols))) ≡ block = simp (length-take, length-drop) (omega (arith, r .block, st .pre .0 .6, l .inv .1 .long)) in
     let m = c .before .before .cross-batch in
     let e : take (l .b * count + count - l .b * count) (drop (l .b * count) (st .args .sums .now)) ≡ piece (length members) (l .b) (st .args .sums .now) =
     piece-part count (l .b) (st .args .sums .now) ∙ ap (λ z. piece z (l .b) (st .args .sums .now)) (sym n) in (
       search needs,
       pieces-more (st .args .g .batches) block (BatchCrossed narrow members (turn * (1 - st .args .which)) (turn * st .args .which) (st .args .sums .now)) (st .args .symbols .now) (l .b) (l .symbols) _
-          (st .pre .6 ∙ sym (blocks-are (st .pre .0) _ (st .pre .1) _ _ _ k)) (omega arith) (l .inv .1) (rw (e, piece-part block (l .b) (l .symbols)) at (m .ensures)) (m .kept .1 .1 .1 .1 .0 ∙ long),
+          (st .pre .0 .6 ∙ sym (blocks-are (st .pre .0 .0) _ (st .pre .0 .1) _ _ _ k)) (omega arith) (l .inv .1) (rw (e, piece-part block (l .b) (l .symbols)) at (m .ensures)) (m .kept .1 .1 .1 .1 .0 ∙ long),
     )
 
 same-length : tie.Need-same-length Inv-loop μ-loop
@@ -115,7 +121,7 @@ returns c =
     let st = c .before .before .before .before .before .before .before .before .before in
     let l = c .before .loop in
     let e : l .b ≡ st .args .g .batches = omega arith in
-    crossed-done (st .pre .0) _ (st .pre .1) _ _ _ (known (c .before)) narrow _ (st .pre .4) _ (st .args .symbols .now) (l .symbols) (st .pre .6) (rw e at (l .inv .1))
+    crossed-done (st .pre .0 .0) _ (st .pre .0 .1) _ _ _ (known (c .before)) narrow _ (st .pre .0 .4) _ (st .args .symbols .now) (l .symbols) (st .pre .0 .6) (rw e at (l .inv .1))
 
 pub cross-spec : {M : Type 1} → statement M
 cross-spec =

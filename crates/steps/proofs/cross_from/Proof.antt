@@ -7,6 +7,7 @@ use borrow.Author.Needs.{needs}
 use lib.ListN.{length, getD, drop, length-take, length-drop}
 use lib.Seq.{getD-take, getD-drop}
 use Rattle.lists.proofs.Buffers.{part-of}
+use Rattle.rows.proofs.Rows.{low-part}
 use Rattle.code.specs.Code.{narrow}
 use Rattle.classes.specs.Classes.{messageSize}
 use Rattle.steps.specs.Storing.{sentBy}
@@ -26,7 +27,7 @@ within c =
     let M = messageSize (st .args .g .shape) (st .args .dead .now) in
     let l : c .among .result < length (st .args .dead .now) - 1 = rw (c .among .ensures) (place-below (length (st .args .dead .now)) (st .args .v) (st .args .u) (p .1) (p .2) (p .3)) in
     let e = p .0 .share-is in
-    (rw e (omega (arith, mul-le-mul-right M l, suc-mul (c .among .result) M, st .pre .1 .0)), e)
+    (rw e (omega (arith, mul-le-mul-right M l, suc-mul (c .among .result) M, st .pre .1 .0 .0)), e)
 
 mul-at : tie.Need-mul-at
 mul-at c = omega (arith, within c .0)
@@ -45,7 +46,8 @@ cross-requires c κs =
     let st = c .before .before .before .before .before .before .before in
     let p = st .pre .0 in
     let w = within (c .before .before) in
-    (p .0, p .2, p .5, p .6, p .4, simp (length-take, length-drop) (omega (arith, w .0, w .1)), st .pre .1 .1)
+    let at = c .before .before .among .result * st .args .g .share in
+    ((p .0, p .2, p .5, p .6, p .4, simp (length-take, length-drop) (omega (arith, w .0, w .1)), st .pre .1 .0 .1), (low-part _ (at + st .args .g .share - at) at _ (st .pre .1 .1 .0), st .pre .1 .1 .1))
 
 returns : tie.Need-returns
 unfolding sentBy

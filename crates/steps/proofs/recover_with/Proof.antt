@@ -11,7 +11,8 @@ use Rattle.shape.specs.Shape.{size}
 use Rattle.code.specs.Code.{narrow}
 use Rattle.classes.specs.Layout.{Fronted}
 use Rattle.classes.proofs.Layouts.{ready-dead, bounded}
-use Rattle.steps.proofs.Recovery.{Known, begun, skipped, crossed, recovered}
+use Rattle.steps.specs.Storing.{LowAt}
+use Rattle.steps.proofs.Recovery.{Known, next-low, begun, skipped, crossed, recovered}
 use Rattle.steps.proofs.recover_with.Statement.{statement}
 use Rattle.steps.proofs.recover_with.Tie as tie
 
@@ -32,7 +33,7 @@ begin-requires c κs =
 
 loop-holds : tie.Need-loop-holds Inv-loop μ-loop
 loop-holds c =
-    (omega arith, refl, c .before .before .begin .kept .1 .1 .1 .1 .1 .0 ∙ c .before .before .before .before .before .before .before .before .before .before .before .before .before .pre .1 .1, λ pairs K. K, refl, c .before .before .before .before .before .before .before .relist .ensures)
+    (omega arith, refl, c .before .before .begin .kept .1 .1 .1 .1 .1 .0 ∙ c .before .before .before .before .before .before .before .before .before .before .before .before .before .pre .1 .0 .1, λ pairs K. K, refl, c .before .before .before .before .before .before .before .relist .ensures)
 
 loop-again : tie.Need-loop-again Inv-loop μ-loop
 loop-again c =
@@ -53,6 +54,23 @@ room c = rw (c .loop .inv .4 ∙ c .before .before .before .before .before .befo
 relist-requires-2 : tie.Need-relist-requires-2 Inv-loop μ-loop
 relist-requires-2 c κs = (c .before .before .before .before .before .before .before .before .before .before .before .before .before .before .before .before .before .before .pre .0 .0, room (c .before .before .before .before), c .before .before .before .before .loop .inv .5)
 
+-- a rank is left
+low : (c : tie.In-loop Inv-loop μ-loop) → (c .before .loop .u < length (c .before .before .before .before .before .before .before .before .before .before .before .before .before .before .before .args .dead .now)) × (c .before .loop .u < 12)
+low c =
+    let e : c .before .loop .u < length (c .before .before .before .before .before .before .before .before .before .before .before .before .before .before .before .args .dead .now) = omega arith in
+    (e, omega (arith, bounded (c .before .before .before .before .before .before .before .before .before .before .before .before .before .before .before .pre .0 .0) .dead-high))
+
+-- what rank u's sums are taken across is below the modulus
+near : (c : tie.In-loop Inv-loop μ-loop) →
+    let a = c .before .before .before .before .before .before .before .before .before .before .before .before .before .before .before .args in
+    LowAt (narrow .modulus) (a .g .shape) (a .dead .now) (c .before .loop .u) 0 (c .before .loop .symbols)
+near c =
+    let st = c .before .before .before .before .before .before .before .before .before .before .before .before .before .before .before in
+    let D = ready-dead (st .pre .0 .0) in
+    let O = st .pre .1 .1 .1 in
+    next-low narrow D _ (st .pre .0 .1) _ _ _ _ (low c .0) (O .low)
+    (c .before .loop .inv .3 (O .pairs) (begun narrow D _ (st .pre .0 .1) _ _ _ _ _ (c .before .before .before .before .begin .ensures) (O .paired)))
+
 cross-from-requires : tie.Need-cross-from-requires Inv-loop μ-loop
 cross-from-requires c κs =
     let st = c .before .before .before .before .before .before .before .before .before .before .before .before .before .before .before .before .before .before .before .before .before .before .before in
@@ -60,14 +78,8 @@ cross-from-requires c κs =
     let l = c .before .before .before .before .before .before .before .before .before .loop in
     let r = c .before .before .before .before .relist2 in (
       (p .0, p .1, omega arith, eqb-false _ _ (neither _ _ (c .before .before .before .before .before .before .before .if1 .left) .0), omega arith, rw (r .kept .1 .1 .1 .1 .0) (room (c .before .before .before .before .before .before .before .before .before)), rw (c .before .before .before .before .before .before .rank-class .ensures) at (r .ensures)),
-      (st .pre .1 .0, l .inv .2),
+      ((st .pre .1 .0 .0, l .inv .2), (st .pre .1 .1 .0, near (c .before .before .before .before .before .before .before .before))),
     )
-
--- a rank is left
-low : (c : tie.In-loop Inv-loop μ-loop) → (c .before .loop .u < length (c .before .before .before .before .before .before .before .before .before .before .before .before .before .before .before .args .dead .now)) × (c .before .loop .u < 12)
-low c =
-    let e : c .before .loop .u < length (c .before .before .before .before .before .before .before .before .before .before .before .before .before .before .before .args .dead .now) = omega arith in
-    (e, omega (arith, bounded (c .before .before .before .before .before .before .before .before .before .before .before .before .before .before .before .pre .0 .0) .dead-high))
 
 add-u-2 : tie.Need-add-u-2 Inv-loop μ-loop
 add-u-2 c = omega (arith, low (c .before .before .before .before .before .before .before .before .before .before .before) .1)

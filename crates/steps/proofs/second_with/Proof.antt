@@ -8,7 +8,7 @@ recover-with-requires c κs =
     let st = c .before .before .before .before .before .before .before .before .before .before .before .before .before .before .before in
     let m = c .before .before .before .before .before .before .before .pairs-with in (
       (st .pre .0 .0, st .pre .0 .1, rw (m .kept .1 .1 .1 .0) (st .pre .0 .2), rw (c .before .before .rank-class .ensures) (m .ensures .1)),
-      (st .pre .1 .0, m .ensures .0 .long),
+      ((st .pre .1 .0 .0, m .ensures .0 .long), (st .pre .1 .1 .1, record { pairs = st .args .pairs .now; paired = m .ensures .0; low = st .pre .1 .1 .0 })),
     )
 
 returns : tie.Need-returns

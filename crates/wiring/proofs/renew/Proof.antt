@@ -5,15 +5,16 @@ use Prim.Native.Nat.{ℕ, _+_, _-_, _*_, _≤_, _<_}
 use native.Mathlib.Nat.{mul-le-mul}
 use native.Mathlib.Omega.{arith}
 use borrow.Author.Needs.{needs}
-use lib.ListN.{length, getD, length-take, length-drop}
+use lib.ListN.{length, getD, take, drop, length-take, length-drop}
 use Rattle.lists.specs.Lists.{piece}
 use Rattle.shape.specs.Shape.{size}
 use Rattle.shape.proofs.Accepted.{shape-accepted}
 use Rattle.classes.specs.Classes.{node, messageSize}
+use Rattle.wiring.specs.Wires.{fromOthers}
 use Rattle.classes.proofs.Layouts.{ready-dead, node-high, bounded, share-high}
 use Rattle.steps.proofs.Parts.{row-within, piece-part}
 use Rattle.wiring.proofs.OnWire.{Room, wire-room, lent-others}
-use Rattle.wiring.proofs.Ranked.{Renewing, renewing-none, renewing-more, renewing-end, recovers-as}
+use Rattle.wiring.proofs.Ranked.{Renewing, renewing-none, renewing-own, renewing-more, renewing-end, recovers-as}
 use Rattle.wiring.proofs.renew.Statement.{statement}
 use Rattle.wiring.proofs.renew.Tie as tie
 
@@ -98,12 +99,41 @@ mul-recover-2 c = omega (arith, within (c .before .before))
 part-recover-end-2 : tie.Need-part-recover-end-2 Inv-loop μ-loop
 part-recover-end-2 c = within (c .before .before) .0
 
+-- what was lent, by the definitions
+lent : (c : tie.In-loop Inv-loop μ-loop) →
+    let a = c .before .before .before .before .before .before .before .args in
+    let l = c .before .loop in
+    let full = c .before .before .before .size .result in
+    let at = getD (a .dead .now) (l .u) 0 * full in
+    let size-of = (length (a .dead .now) - 1) * a .g .share in
+    let from = length (a .dead .now) * a .told + l .u * size-of in
+    (take (from + size-of - from) (drop from (a .wire .now)) ≡ fromOthers (a .g .shape) (a .dead .now) (l .u) (a .wire .now))
+    × (take (at + full - at) (drop at (l .nodes)) ≡ piece (size (a .g .shape)) (node (a .dead .now) (l .u)) (l .nodes))
+unfolding node
+lent c =
+    let st = c .before .before .before .before .before .before .before in
+    let a = st .args in
+    let l = c .before .loop in
+    let e = c .before .before .before .size .ensures in
+    let i = getD (a .dead .now) (l .u) 0 in (
+      lent-others (a .g .shape) (a .dead .now) _ _ (l .u) (a .wire .now) (room st .all) (ap (λ z. (length (a .dead .now) - 1) * z) (st .pre .0 .share-is)),
+      piece-part (c .before .before .before .size .result) i (l .nodes) ∙ ap (λ z. piece z i (l .nodes)) e,
+    )
+
 recover-requires : tie.Need-recover-requires Inv-loop μ-loop
 recover-requires c κs =
-    let st = c .before .before .before .before .before .before .before .before .before .before in
-    let w = within (c .before .before .before) in
+    let i = c .before .before .before in
+    let st = i .before .before .before .before .before .before .before in
+    let l = i .before .loop in
+    let w = within i in
     let e = st .pre .0 .share-is in
-    ((st .pre .0, omega arith), (simp (length-take, length-drop) (omega (arith, w, ap (λ z. (length (st .args .dead .now) - 1) * z) e)), simp (length-take, length-drop) (omega (arith, w, c .before .before .before .before .before .before .size .ensures))))
+    let h : l .u < length (st .args .dead .now) = omega arith in (
+      (st .pre .0, h),
+      (
+        (simp (length-take, length-drop) (omega (arith, w, ap (λ z. (length (st .args .dead .now) - 1) * z) e)), simp (length-take, length-drop) (omega (arith, w, i .before .before .before .size .ensures))),
+        (rw (lent i .0) (st .pre .4 .received (l .u) h), rw (lent i .1 ∙ renewing-own _ _ (ready-dead (st .pre .0)) (l .u) h _ _ _ (l .inv .2)) (st .pre .4 .own (l .u) h)),
+      ),
+    )
 
 loop-again : tie.Need-loop-again Inv-loop μ-loop
 unfolding node
@@ -113,17 +143,14 @@ loop-again c =
     let l = c .before .before .before .before .before .before .before .loop in
     let R = st .pre .0 in
     let e = c .before .before .before .before .before .before .before .before .before .size .ensures in
-    let i = getD (a .dead .now) (l .u) 0 in
+    let i = c .before .before .before .before .before .before in
     let last : List ℕ = c .before .before .recover .last .1 .1 .1 .1 .0 in
     let long : length last ≡ size (a .g .shape) = c .before .before .recover .kept .1 .1 .1 .1 .0 ∙ simp (length-take, length-drop) (omega (arith, within (c .before .before .before .before .before .before), e)) in (
       omega arith,
       refl,
       rw e
           (renewing-more (a .g .shape) (a .dead .now) (ready-dead R) (l .u) (omega arith) (a .nodes .now) (l .nodes) (a .wire .now) last (st .pre .2) long (l .inv .2)
-          (recovers-as _ _ _ _ _ _ _ _
-          (lent-others (a .g .shape) (a .dead .now) _ _ (l .u) (a .wire .now) (room st .all) (ap (λ z. (length (a .dead .now) - 1) * z) (R .share-is)))
-          (piece-part (c .before .before .before .before .before .before .before .before .before .size .result) i (l .nodes) ∙ ap (λ z. piece z i (l .nodes)) e)
-          (c .before .before .recover .ensures))),
+          (recovers-as _ _ _ _ _ _ _ _ (lent i .0) (lent i .1) (c .before .before .recover .ensures))),
     )
 
 returns : tie.Need-returns Inv-loop μ-loop
