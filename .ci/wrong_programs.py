@@ -4,10 +4,12 @@
     wrong_programs.py join TREE     copies the crates to TREE, the wrong programs of each crate joined to rounds, each an edit of its own
     wrong_programs.py judge TREE    prints a line for each wrong program, once `rt must-fail` has run in TREE
 
-Most of them change the body of one function. Other functions see its contract alone, and are refused besides where they call it and it is
-refused. So those of functions that do not call each other, over however many calls, are one round, tried by one check of the crate: each
-function changed must be refused, and not for a function that it calls; any other function must be proved, or refused for one that it
-calls. What changes more than a body, a definition say, is a round by itself, and its crate must be refused.
+Most of them change the body of one function, of which the proofs of other functions see the contract alone. So those of different functions
+are one round, tried by one check of the crate. Each function changed must then be refused for itself: its proof has an error, or none is
+found where it has no proof file. That it rests on something refused, a function that it calls, is no such error; and a function whose body
+is as it was may have no other. If all that is wrong with a function is in the last lines of its proof, where the proofs of what it calls
+are put together, it is not seen beside a wrong one that it calls: such an edit says `alone:` and why, and is a round by itself. So is
+what changes more than a body, a definition say: there the crate must be refused.
 """
 import re
 import shutil
@@ -16,7 +18,9 @@ from pathlib import Path
 
 FUNCTION = re.compile(r'^(?:pub )?(?:extern "C" )?fn (\w+)', re.M)
 BODY = re.compile(r'^(?:.*fn .*)?\{$', re.M)
-VERDICT = re.compile(r'^fn \w+::(\w+): (.*)$', re.M)
+ERROR = re.compile(r'/proofs/(\S+?)\.antt:\d+:\d+: error: (.*)$', re.M)
+RESTS_ON_REFUSED = re.compile(r'`\S+`: `\S+` was not admitted ')
+NO_PROOF = re.compile(r'^fn \w+::(\w+): no proof', re.M)
 
 
 class Crate:
@@ -28,26 +32,10 @@ class Crate:
         for found in FUNCTION.finditer(self.source):
             start = BODY.search(self.source, found.start()).end()
             self.bodies[found.group(1)] = (start, self.source.index('\n}\n', start))
-        self.reached = {name: self.called_from(name) for name in self.bodies}
-
-    def called_by(self, name):
-        """The functions of the crate that a function names in calls."""
-        start, end = self.bodies[name]
-        return set(re.findall(r'(\w+)\(', self.source[start:end])) & self.bodies.keys()
-
-    def called_from(self, name):
-        """Those that it calls, over however many calls."""
-        reached, todo = set(), [name]
-        while todo:
-            new = self.called_by(todo.pop()) - reached
-            reached |= new
-            todo += new
-        return reached
 
     def changed(self, edit):
         """The function whose body is all that an edit changes, or None."""
-        names = set()
-        file = None
+        names, file = set(), ''
         for line in edit.read_text().split('\n'):
             if line.startswith('file: '):
                 file = line.removeprefix('file: ')
@@ -56,17 +44,15 @@ class Crate:
                 names.add(next((name for name, (start, end) in self.bodies.items() if start <= at < end), None))
         return names.pop() if len(names) == 1 else None
 
-    def apart(self, one, other):
-        return one != other and one not in self.reached[other] and other not in self.reached[one]
-
     def rounds(self):
-        """The edits by rounds: {function: edit}, or {None: edit}."""
-        edits = [(self.changed(edit), edit) for edit in sorted((self.folder / 'must-fail').glob('*.edit'))]
-        alone = [{None: edit} for name, edit in edits if name is None]
-        together = []
-        # Those that call the fewest functions come first, so that a round has much the same depth of calls, and room.
-        for name, edit in sorted((e for e in edits if e[0]), key=lambda e: len(self.reached[e[0]])):
-            room = next((r for r in together if all(self.apart(name, other) for other in r)), None)
+        """The edits by rounds, numbered: {function: edit}, or {None: edit} for what changes more than a body."""
+        together, alone = [], []
+        for edit in sorted((self.folder / 'must-fail').glob('*.edit')):
+            name = self.changed(edit)
+            if name is None or re.search('^alone:', edit.read_text(), re.M):
+                alone.append({name: edit})
+                continue
+            room = next((r for r in together if name not in r), None)
             if room is None:
                 room = {}
                 together.append(room)
@@ -88,8 +74,10 @@ def join(tree):
             (folder / f'round{number}.edit').write_text('\n'.join(edit.read_text() for edit in edits.values()))
 
 
-def refused_for_itself(verdict):
-    return verdict == 'not proved' or verdict.startswith('no proof')
+def refused_for_themselves(log):
+    """The functions, and the files of laws, that have errors of their own. The proof of a function that calls itself stands in +NAME."""
+    wrong = {file for file, message in ERROR.findall(log) if not RESTS_ON_REFUSED.match(message)}
+    return {file.removesuffix('/Proof').removeprefix('+') for file in wrong} | set(NO_PROOF.findall(log))
 
 
 def faults(edits, refused, log):
@@ -98,11 +86,11 @@ def faults(edits, refused, log):
         return {name: 'the crate is not refused' for name in edits}
     if None in edits:
         return {}
-    verdicts = dict(VERDICT.findall(log))
-    strange = [name for name, verdict in verdicts.items() if name not in edits and refused_for_itself(verdict)]
+    found = refused_for_themselves(log)
+    strange = found - edits.keys()
     if strange:
-        return {name: f'{", ".join(strange)} is refused, which is as it was' for name in edits}
-    return {name: f'{name}: {verdicts.get(name)}' for name in edits if not refused_for_itself(verdicts.get(name, ''))}
+        return {name: f'{", ".join(sorted(strange))} is refused, which is as it was' for name in edits}
+    return {name: f'{name} is not refused for itself' for name in edits.keys() - found}
 
 
 def judge(tree):
