@@ -2,7 +2,7 @@
 use mathlib.Core.Path.{_≡_}
 use mathlib.Core.Bool.{true, false}
 use mathlib.Core.List.{List}
-use Prim.Native.Nat.{ℕ, _/_, _%_, _^_, _≤_, _<_}
+use Prim.Native.Nat.{ℕ, _+_, _/_, _%_, _^_, _≤_, _<_}
 use lib.ListN.{length, getD}
 use Rattle.lists.specs.Lists.{rising}
 use Rattle.shape.specs.Shape.{mostNodes}
@@ -21,6 +21,7 @@ pub record Ready (dead : List ℕ) (g : Layout) : Type 0 where
   pub batch-is : g .batch ≡ batch dead
   pub batches-is : g .batches ≡ g .shape .layers / batch dead
   pub top-is : g .top ≡ top dead
+  pub members-is : g .members ≡ 2 ^ g .shape .n / (top dead + 1)
   pub share-is : g .share ≡ messageSize (g .shape) dead
 
 -- the first elements of a table are the a of class c below 2^n, rising

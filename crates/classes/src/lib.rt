@@ -1,7 +1,6 @@
 // Layout and classes: what the shape and the dead nodes of a repair fix.
 use shape::Shape;
 use shape::batch;
-use shape::size;
 use shape::two_to;
 ghost use mathlib.Core.Path.{_≡_};
 ghost use mathlib.Core.Bool.{true, false, cond};
@@ -30,6 +29,8 @@ pub struct Layout {
     pub batches: usize,
     // H of document 01, the highest class.
     pub top: usize,
+    // The a of a class: each has as many.
+    pub members: usize,
     // N/(h+1), the symbols of a message.
     pub share: usize,
 }
@@ -110,14 +111,17 @@ pub fn laid_out(s: Shape, dead: &[usize]) -> Layout
     let h = dead.len();
     let batch = batch(h);
     let places = two_to(n);
-    let share = size(s) / (h + 1);
+    let batches = layers / batch;
+    let classes = (h + 1) / batch;
+    let members = places / classes;
     Layout {
         shape: s,
         places,
         batch,
-        batches: layers / batch,
-        top: (h + 1) / batch - 1,
-        share,
+        batches,
+        top: classes - 1,
+        members,
+        share: batches * members,
     }
 }
 
@@ -126,7 +130,7 @@ pub fn class_size(g: Layout, dead: &[usize]) -> usize
     requires { ⌜ Ready (now dead) g ⌝ }
     ensures { λ r. ⌜ ((c : ℕ) → c ≤ top (now (dead .entry)) → r ≡ length (members (now (dead .entry)) c (2 ^ g .shape .n))) ⌝ }
 {
-    g.places / (g.top + 1)
+    g.members
 }
 
 // The a of class c, rising, in the front of a table. What is written at x is written over where its a is not of the class.
