@@ -62,15 +62,17 @@ fn class_of(g: Layout, dead: &[usize], a: usize) -> usize
     class
 }
 
-// The table's column "its class", of rank u.
+// The table's column "its class", of rank u. Quotient and remainder stand side by side here, and one division gives both.
 pub fn rank_class(g: Layout, dead: &[usize], u: usize) -> usize
     requires { ⌜ Ready (now dead) g ⌝ }
     ensures { λ r. ⌜ r ≡ rankClass (now (dead .entry)) u ⌝ }
 {
     let batch = g.batch;
     let top = g.top;
-    if u / batch < top {
-        if u % batch == 0 { 0 } else { u / batch }
+    let row = u / batch;
+    let rest = u % batch;
+    if row < top {
+        if rest == 0 { 0 } else { row }
     } else {
         top
     }
@@ -83,11 +85,9 @@ fn partner(g: Layout, dead: &[usize], u: usize) -> usize
 {
     let batch = g.batch;
     let top = g.top;
-    if u / batch < top {
-        u % batch
-    } else {
-        u % batch + 1
-    }
+    let row = u / batch;
+    let rest = u % batch;
+    if row < top { rest } else { rest + 1 }
 }
 
 // What turns the first place of each sum of rank u into its other one, within a batch: the bit of node i_u, and above the bits of a the

@@ -8,14 +8,11 @@ use Rattle.classes.proofs.Layouts.{bounded}
 use Rattle.classes.proofs.partner.Statement.{statement}
 use Rattle.classes.proofs.partner.Tie as tie
 
-div-if1 : tie.Need-div-if1
-div-if1 c = omega (arith, bounded (c .pre .0) .batch-low)
+div-row : tie.Need-div-row
+div-row c = omega (arith, bounded (c .pre .0) .batch-low)
 
-rem-result : tie.Need-rem-result
-rem-result c = omega (arith, bounded (c .before .pre .0) .batch-low)
-
-rem-result-2 : tie.Need-rem-result-2
-rem-result-2 c = omega (arith, bounded (c .before .pre .0) .batch-low)
+rem-rest : tie.Need-rem-rest
+rem-rest c = omega (arith, bounded (c .pre .0) .batch-low)
 
 add-result : tie.Need-add-result
 add-result c = let b = bounded (c .before .pre .0) in omega (arith, mod-lt (c .before .args .u) (b .batch-low), b .batch-high)
@@ -29,4 +26,4 @@ unfolding partner
 returns-2 c = let R = c .before .pre .0 in simp (sym (R .batch-is), sym (R .top-is), le-ltb _ _ (c .if1 .left))
 
 pub partner-spec : {M : Type 1} → statement M
-partner-spec = tie.close (tie.spec div-if1 rem-result rem-result-2 add-result returns returns-2)
+partner-spec = tie.close (tie.spec div-row rem-rest add-result returns returns-2)

@@ -7,14 +7,11 @@ use Rattle.classes.proofs.Layouts.{bounded}
 use Rattle.classes.proofs.rank_class.Statement.{statement}
 use Rattle.classes.proofs.rank_class.Tie as tie
 
-div-if1 : tie.Need-div-if1
-div-if1 c = omega (arith, bounded (c .pre) .batch-low)
+div-row : tie.Need-div-row
+div-row c = omega (arith, bounded (c .pre) .batch-low)
 
-rem-if2 : tie.Need-rem-if2
-rem-if2 c = omega (arith, bounded (c .before .pre) .batch-low)
-
-div-result : tie.Need-div-result
-div-result c = omega (arith, bounded (c .before .before .pre) .batch-low)
+rem-rest : tie.Need-rem-rest
+rem-rest c = omega (arith, bounded (c .pre) .batch-low)
 
 returns : tie.Need-returns
 unfolding rankClass
@@ -29,4 +26,4 @@ unfolding rankClass
 returns-3 c = let R = c .before .pre in simp (sym (R .batch-is), sym (R .top-is), le-ltb _ _ (c .if1 .left))
 
 pub rank-class-spec : {M : Type 1} → statement M
-rank-class-spec = tie.close (tie.spec div-if1 rem-if2 div-result returns returns-2 returns-3)
+rank-class-spec = tie.close (tie.spec div-row rem-rest returns returns-2 returns-3)
