@@ -13,21 +13,11 @@ use Rattle.shape.specs.declared.Shape.{Shape}
 use Rattle.shape.specs.Shape.{size}
 use Rattle.code.specs.Code.{Code}
 use Rattle.classes.specs.Classes.{node, messageSize}
-use Rattle.classes.specs.Steps.{helperMessage, ownPairs, exchange, otherRank, exchangeTo, exchanges, place, contents}
+use Rattle.classes.specs.Steps.{helperMessage, ownPairs, exchange, otherRank, place, contents}
 use Rattle.classes.specs.Whole.{fromHelper, fromHelpers, fromSender, fromDead, wire, renewed}
 use Rattle.classes.proofs.Placing.{place-below, other-place}
 use Rattle.classes.proofs.Dead.{Accepted, dead-of}
 use Rattle.classes.proofs.FirstStep.{message-length, exchange-length}
-
--- what a first step hands out has its message to rank v at v's place
-pub exchanges-piece : (c : Code) (s : Shape) (dead helpers : List ℕ) (u v : ℕ) (messages : List ℕ) → u < length dead → v < length dead → v ≢ u
-    → piece (messageSize s dead) (place u v) (exchanges c s dead helpers u messages) ≡ exchange c s dead helpers u messages (node dead v)
-unfolding exchanges exchangeTo
-exchanges-piece c s dead helpers u v messages l m d =
-    ap (piece (messageSize s dead) (place u v)) (sym (append-nil (exchanges c s dead helpers u messages)))
-    ∙ flat-piece (messageSize s dead) (exchangeTo c s dead helpers u messages) (length dead - 1) (λ j _. exchange-length c s dead helpers u messages (node dead (otherRank u j))) []
-    (place u v) (place-below (length dead) u v l m d) 0
-    ∙ ap (λ w. exchange c s dead helpers u messages (node dead w)) (other-place (length dead) u v l m d)
 
 module _ (c : Code) (s : Shape) (dead helpers nodes : List ℕ) (A : Accepted c s dead helpers) where
   abbrev M : ℕ

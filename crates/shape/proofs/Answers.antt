@@ -3,11 +3,9 @@ use mathlib.Core.Path.{_≡_, refl}
 use mathlib.Core.List.{List}
 use Prim.Native.Nat.{ℕ, zero, suc, _<_}
 use native.Mathlib.Omega.{arith}
-use Rattle.shape.specs.declared.Answer.{Answer}
-use Rattle.shape.specs.declared.Answer.the-variants.{Done, Refused}
 use Rattle.shape.specs.declared.Refusal.{Refusal}
 use Rattle.shape.specs.declared.Refusal.the-variants.{BadShape, BadNodes, PartBatch, WrongLength, BadSymbol, Malformed, NoTranscript, ZeroDivisor}
-use Rattle.shape.specs.Refusals.{numberOf, answerNumber, afterwards}
+use Rattle.shape.specs.Refusals.{numberOf, afterwards}
 
 pub number-positive : (r : Refusal) → 0 < numberOf r
 number-positive BadShape = omega arith
@@ -18,10 +16,6 @@ number-positive BadSymbol = omega arith
 number-positive Malformed = omega arith
 number-positive NoTranscript = omega arith
 number-positive ZeroDivisor = omega arith
-
-pub answer-done : (a : Answer) → answerNumber a ≡ 0 → a ≡ Done
-answer-done Done e = refl
-answer-done (Refused r) e = absurd (omega (arith, number-positive r))
 
 -- a buffer when the call did its work, and when it turned back with a cause
 module _ (before made : List ℕ) where

@@ -1,5 +1,4 @@
--- Laws of parts of buffers, of what a new node stores and gets from the others, lowest first.
-pub mod Parts
+-- Laws of what a new node stores and gets from the others, lowest first.
 pub mod Pieces
 pub mod Storing
 pub mod Turned

@@ -8,7 +8,7 @@ use borrow.Rule.Slice.PartMut.{putMid}
 use lib.ListN.{length}
 use Rattle.lists.specs.Lists.{piece}
 use Rattle.batches.proofs.Batches.{upto}
-use Rattle.steps.proofs.Parts.{put-piece, put-other, put-piece-length}
+use Rattle.lists.proofs.Parts.{put-piece, put-other, put-piece-length}
 
 -- of n pieces of m elements, the first b are as P says, and the others as they were
 pub record Pieces (n m : ℕ) (P : ℕ → List ℕ → List ℕ → Type 0) (b : ℕ) (old now : List ℕ) : Type 0 where

@@ -3,10 +3,10 @@ use mathlib.Core.Path.{_≡_, refl, sym, ap, ap₂, _∙_}
 use mathlib.Core.Logic.{_⊎_, inl, inr}
 use mathlib.Core.List.{List}
 use Prim.Native.Nat.{ℕ, zero, suc, _+_, _*_, _-_, _/_, _%_, _^_, _≤_, _<_}
-use native.Mathlib.Nat.{pow-succ', mul-one, mul-zero, div-add-mod', mod-lt, div-lt-iff-lt-mul, mul-le-mul}
+use native.Mathlib.Nat.{mul-one, mul-zero, div-add-mod', mod-lt, div-lt-iff-lt-mul, mul-le-mul}
 use native.Mathlib.Omega.{arith}
 use lib.Arith.{digits-lt}
-use lib.Bits.{bitXor, differ, xor-step, xor-zero-r, xor-zero-l, xor-block}
+use lib.Bits.{bitXor, xor-zero-l, xor-block}
 use lib.ListN.{length, getD, take, length-take, List·getD-eq-default}
 use lib.Pow.{pow-lt}
 use lib.Seq.{ext-getD, getD-take}
@@ -15,7 +15,7 @@ use Rattle.lists.specs.Digits.{flip}
 use Rattle.lists.proofs.Tests.{below-or-not}
 use Rattle.lists.proofs.Tables.{is-tabulate, tabulate-at}
 use Rattle.lists.proofs.Flats.{piece-at}
-use Rattle.lists.proofs.Flips.{flip-zero-half, flip-zero-odd, flip-suc}
+use Rattle.lists.proofs.Xors.{flip-xor}
 use Rattle.field.specs.Residues.{minus}
 use Rattle.shape.specs.declared.Shape.{Shape}
 use Rattle.shape.specs.Shape.{mostNodes, size}
@@ -34,31 +34,10 @@ use Rattle.classes.proofs.Messages.{messageAt, message-table, spot-number}
 use Rattle.classes.proofs.Members.{member-is, member-sum, members-few}
 use Rattle.steps.specs.Storing.{sumSymbol, Paired, LowAt, Crossed}
 use Rattle.batches.specs.Batches.{turned, Apart, addedIn, PairedIn, LowNear, leftIn, Stored}
-use Rattle.steps.proofs.Parts.{row-within}
+use Rattle.lists.proofs.Parts.{row-within}
 use Rattle.batches.proofs.Batches.{turned-is, turned-none}
 use Rattle.steps.proofs.Pieces.{Pieces}
 use Rattle.steps.proofs.Storing.{sum-first, sum-other, sums-own, sums-apart}
-
--- a flip is an exclusive or with the digit's worth
-pub flip-xor : (i a : ℕ) → bitXor a (2 ^ i) ≡ flip i a
-flip-xor zero a = xor-step a 1 ∙ go (a % 2) refl
-  where
-    go : (r : ℕ) → a % 2 ≡ r → bitXor (a / 2) (1 / 2) * 2 + differ (a % 2) (1 % 2) ≡ flip 0 a
-    go zero e = rw (e, xor-zero-r (a / 2)) (omega (arith, flip-zero-half a, flip-zero-odd a))
-    go (suc zero) e = rw (e, xor-zero-r (a / 2)) (omega (arith, flip-zero-half a, flip-zero-odd a))
-    go (suc (suc r)) e = absurd (omega arith)
-flip-xor (suc i) a = xor-step a (2 ^ suc i) ∙ go (flip-xor i (a / 2)) (a % 2) refl
-  where
-    half : 2 ^ suc i / 2 ≡ 2 ^ i
-    half = omega (arith, pow-succ' 2 i)
-
-    even : 2 ^ suc i % 2 ≡ 0
-    even = omega (arith, pow-succ' 2 i)
-
-    go : bitXor (a / 2) (2 ^ i) ≡ flip i (a / 2) → (r : ℕ) → a % 2 ≡ r → bitXor (a / 2) (2 ^ suc i / 2) * 2 + differ (a % 2) (2 ^ suc i % 2) ≡ flip (suc i) a
-    go ih zero e = rw (half, even, e, ih) (omega (arith, flip-suc i a))
-    go ih (suc zero) e = rw (half, even, e, ih) (omega (arith, flip-suc i a))
-    go ih (suc (suc r)) e = absurd (omega arith)
 
 -- above the bits of a, an exclusive or adds
 turned-block : (n w i a : ℕ) → a < 2 ^ n → i < n → bitXor a (w * 2 ^ n + 2 ^ i) ≡ w * 2 ^ n + flip i a

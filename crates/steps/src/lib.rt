@@ -242,23 +242,20 @@ pub fn recover(g: Layout, dead: &[usize], v: usize, received: &[u16], symbols: &
     }
 }
 
-// The whole second step of rank v: the lent table has the members of its own class once its pairs are stored. One new node alone has all its
-// symbols from its own pairs.
-fn second_with(
+// The second step of rank v in place, with a table of the members of its own class. One new node alone has all its symbols from its own pairs.
+fn recover_rest(
     g: Layout,
     dead: &[usize],
     v: usize,
     table: &mut [u16],
-    pairs: &[u16],
     received: &[u16],
     symbols: &mut [u16],
 )
-    requires { ⌜ (Ready (now dead) g) × (v < length (now dead)) × (g .places ≤ length (now table)) × (length (now pairs) ≡ 2 * messageSize (g .shape) (now dead)) ⌝ }
+    requires { ⌜ (Ready (now dead) g) × (v < length (now dead)) × (g .places ≤ length (now table)) × (Fronted (now dead) (rankClass (now dead) v) (g .shape .n) (now table)) ⌝ }
     requires { ⌜ (length (now received) ≡ (length (now dead) - 1) * messageSize (g .shape) (now dead)) × (length (now symbols) ≡ size (g .shape)) ⌝ }
-    requires { ⌜ (Low (narrow .modulus) (now pairs)) × (Low (narrow .modulus) (now received)) ⌝ }
-    ensures { λ _. ⌜ now (symbols .exit) ≡ contents narrow (g .shape) (now (dead .entry)) v (now (pairs .entry)) (now (received .entry)) ⌝ }
+    requires { ⌜ (Low (narrow .modulus) (now received)) × (OwnLow (narrow .modulus) (g .shape) (now dead) v (now symbols)) ⌝ }
+    ensures { λ _. ⌜ Recovers narrow (g .shape) (now (dead .entry)) v (now (received .entry)) (now (symbols .entry)) (now (symbols .exit)) ⌝ }
 {
-    pairs_with(g, dead, v, table, pairs, symbols);
     if dead.len() == 1 {
         return;
     }
@@ -282,9 +279,11 @@ pub fn second(
 {
     if g.places <= FEW {
         let mut table = [0u16; FEW];
-        second_with(g, dead, v, &mut table, pairs, received, symbols);
+        pairs_with(g, dead, v, &mut table, pairs, symbols);
+        recover_rest(g, dead, v, &mut table, received, symbols);
     } else {
         let mut table = [0u16; MEMBERS];
-        second_with(g, dead, v, &mut table, pairs, received, symbols);
+        pairs_with(g, dead, v, &mut table, pairs, symbols);
+        recover_rest(g, dead, v, &mut table, received, symbols);
     }
 }

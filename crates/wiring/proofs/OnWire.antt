@@ -23,7 +23,7 @@ use Rattle.wiring.specs.Wires.{inward, inwards, toRank, fromOthers}
 use Rattle.classes.proofs.Dead.{Dead}
 use Rattle.classes.proofs.FirstStep.{message-length}
 use Rattle.classes.proofs.Layouts.{bounded, share-high}
-use Rattle.steps.proofs.Parts.{row-within, piece-part, piece-front, tail-lent, tail-back}
+use Rattle.lists.proofs.Parts.{row-within, piece-part, piece-front, tail-lent, tail-back}
 
 pub helpers-length : {s : Shape} {dead : List ℕ} → Dead s dead → (helpers nodes : List ℕ) → length helpers ≡ s .k + 1 → (u : ℕ)
     → length (fromHelpers narrow s dead helpers nodes u) ≡ inward s dead

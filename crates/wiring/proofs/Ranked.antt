@@ -21,7 +21,7 @@ use Rattle.solving.specs.Solving.{slotOf}
 use Rattle.wiring.specs.Wires.{inwards, toRank, FirstOnWire, Exchanged, fromOthers, Renewed}
 use Rattle.classes.proofs.Dead.{Dead, node-below, node-own}
 use Rattle.solving.proofs.Slots.{senders-apart}
-use Rattle.steps.proofs.Parts.{put-piece-length, put-piece, put-other}
+use Rattle.lists.proofs.Parts.{put-piece-length, put-piece, put-other}
 use Rattle.wiring.proofs.OnWire.{to-rank-front}
 
 module _ (s : Shape) (dead helpers : List ℕ) where

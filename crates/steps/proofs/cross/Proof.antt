@@ -8,7 +8,7 @@ use Rattle.lists.specs.Lists.{piece}
 use Rattle.rows.proofs.Rows.{low-part}
 use Rattle.code.specs.Code.{narrow}
 use Rattle.classes.proofs.Layouts.{bounded}
-use Rattle.steps.proofs.Parts.{piece-part}
+use Rattle.lists.proofs.Parts.{piece-part}
 use Rattle.steps.proofs.Pieces.{Pieces, pieces-none, pieces-more}
 use Rattle.steps.proofs.Turned.{BatchCrossed, turn-high, Tabled, tabled, Room, room, blocks-are, apart-by, low-by, crossed-done}
 use borrow.Author.Needs.{needs}

@@ -9,7 +9,7 @@ use Rattle.lists.proofs.Tables.{tabulate-length}
 use Rattle.batches.specs.Batches.{addedIn}
 use Rattle.code.specs.Code.{narrow}
 use Rattle.classes.proofs.Layouts.{bounded}
-use Rattle.steps.proofs.Parts.{piece-part}
+use Rattle.lists.proofs.Parts.{piece-part}
 use Rattle.steps.proofs.Pieces.{Pieces, pieces-none, pieces-more}
 use Rattle.steps.proofs.Turned.{BatchAdded, Tabled, tabled, Room, room, sums-are, apart-other, message-done}
 use borrow.Author.Needs.{needs}

@@ -6,7 +6,7 @@ use native.Mathlib.Omega.{arith}
 use lib.ListN.{length, take, drop, length-take, length-drop}
 use Rattle.lists.specs.Lists.{piece}
 use Rattle.classes.proofs.Layouts.{bounded}
-use Rattle.steps.proofs.Parts.{piece-part}
+use Rattle.lists.proofs.Parts.{piece-part}
 use Rattle.steps.proofs.Pieces.{Pieces, pieces-none, pieces-more}
 use Rattle.steps.proofs.Turned.{BatchPaired, Tabled, tabled, Room, room, blocks-are, apart-first, apart-other, paired-done}
 use borrow.Author.Needs.{needs}

@@ -10,7 +10,7 @@ use Rattle.shape.proofs.Accepted.{shape-accepted}
 use Rattle.classes.specs.Classes.{node}
 use Rattle.wiring.specs.Wires.{Wired}
 use Rattle.classes.proofs.Layouts.{ready-dead, node-high}
-use Rattle.steps.proofs.Parts.{row-within}
+use Rattle.lists.proofs.Parts.{row-within}
 use Rattle.wiring.proofs.OnWire.{to-rank-front}
 use Rattle.wiring.proofs.Ranked.{Exchanging, exchanging-none, exchanging-more, exchanging-end}
 use Rattle.wiring.proofs.exchange.Statement.{statement}

@@ -19,7 +19,7 @@ use Rattle.classes.specs.Steps.{helperMessage}
 use Rattle.classes.specs.Whole.{fromHelper, fromHelpers}
 use Rattle.classes.proofs.FirstStep.{message-length}
 use Rattle.classes.proofs.Layouts.{ready-dead, share-high}
-use Rattle.steps.proofs.Parts.{row-within, piece-part, flat-put, flat-whole}
+use Rattle.lists.proofs.Parts.{row-within, piece-part, flat-put, flat-whole}
 use Rattle.wiring.proofs.messages_to.Statement.{statement}
 use Rattle.wiring.proofs.messages_to.Tie as tie
 

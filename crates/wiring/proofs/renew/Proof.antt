@@ -12,7 +12,7 @@ use Rattle.shape.proofs.Accepted.{shape-accepted}
 use Rattle.classes.specs.Classes.{node, messageSize}
 use Rattle.wiring.specs.Wires.{fromOthers}
 use Rattle.classes.proofs.Layouts.{ready-dead, node-high, bounded, share-high}
-use Rattle.steps.proofs.Parts.{row-within, piece-part}
+use Rattle.lists.proofs.Parts.{row-within, piece-part}
 use Rattle.wiring.proofs.OnWire.{Room, wire-room, lent-others}
 use Rattle.wiring.proofs.Ranked.{Renewing, renewing-none, renewing-own, renewing-more, renewing-end, recovers-as}
 use Rattle.wiring.proofs.renew.Statement.{statement}

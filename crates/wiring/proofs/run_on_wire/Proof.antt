@@ -11,7 +11,7 @@ use Rattle.classes.proofs.Layouts.{bounded, ready-dead, node-high}
 use Rattle.solving.specs.Solving.{slots, Helped}
 use Rattle.solving.proofs.Entries.{entry-summable, rank-summable, run-handed, run-owned}
 use Rattle.wiring.specs.Wires.{toRank, ownPlace}
-use Rattle.steps.proofs.Parts.{tail-length, tail-front}
+use Rattle.lists.proofs.Parts.{tail-length, tail-front}
 use Rattle.wiring.proofs.OnWire.{Room, wire-room, lent-rank, tail-put}
 use Rattle.wiring.proofs.Passing.{own-apart, own-places}
 use Rattle.wiring.proofs.run_on_wire.Statement.{statement}

@@ -12,7 +12,7 @@ use Rattle.classes.specs.Classes.{messageSize}
 use Rattle.classes.specs.Whole.{fromHelpers}
 use Rattle.wiring.specs.Wires.{inward, inwards}
 use Rattle.classes.proofs.Layouts.{ready-dead}
-use Rattle.steps.proofs.Parts.{flat-start, flat-put, flat-front}
+use Rattle.lists.proofs.Parts.{flat-start, flat-put, flat-front}
 use Rattle.wiring.proofs.OnWire.{helpers-length, Room, wire-room}
 use Rattle.wiring.proofs.send.Statement.{statement}
 use Rattle.wiring.proofs.send.Tie as tie
