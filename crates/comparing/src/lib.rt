@@ -9,7 +9,7 @@ use rows::RUN;
 use shape::MODULUS;
 use shape::Shape;
 use shape::two_to;
-use tables::ENTRIES;
+use tables::FLAGS;
 use tables::TABLE;
 use tables::marks;
 ghost use mathlib.Core.Path.{_≡_};
@@ -44,7 +44,7 @@ fn run_met(
     place: usize,
     run: usize,
     list: &[usize],
-    marked: [bool; ENTRIES],
+    marked: [bool; FLAGS],
     table: &[u16],
     nodes: &[u16],
 ) -> bool
@@ -69,7 +69,7 @@ fn layers_met(
     a: usize,
     run: usize,
     list: &[usize],
-    marked: [bool; ENTRIES],
+    marked: [bool; FLAGS],
     few: bool,
     source: &[u16],
     table: &mut [u16],
@@ -103,7 +103,7 @@ fn layers_met(
 fn runs_met(
     s: Shape,
     list: &[usize],
-    marked: [bool; ENTRIES],
+    marked: [bool; FLAGS],
     few: bool,
     source: &[u16],
     nodes: &[u16],
@@ -134,7 +134,7 @@ fn runs_met(
 }
 
 // Likewise, with few multipliers worked out first, to pick from.
-fn met_from_few(s: Shape, list: &[usize], marked: [bool; ENTRIES], nodes: &[u16]) -> usize
+fn met_from_few(s: Shape, list: &[usize], marked: [bool; FLAGS], nodes: &[u16]) -> usize
     requires { ⌜ (shapeBad s ≡ false) × Fillable (s .n) (size s) (now list) (now nodes) × Marks (s .n) (now list) marked × (patterns marked (s .n) ≤ mostPlaces) ⌝ }
     ensures { λ to. ⌜ HeldTo s (now (list .entry)) (now (nodes .entry)) to ⌝ }
 {

@@ -10,7 +10,7 @@ use shape::MODULUS;
 use shape::MOST_NODES;
 use shape::Shape;
 use shape::two_to;
-use tables::ENTRIES;
+use tables::FLAGS;
 use tables::TABLE;
 use tables::marks;
 ghost use mathlib.Core.Path.{_≡_};
@@ -62,7 +62,7 @@ fn fill_run(
     place: usize,
     run: usize,
     list: &[usize],
-    marked: [bool; ENTRIES],
+    marked: [bool; FLAGS],
     table: &[u16],
     nodes: &mut [u16],
 )
@@ -84,7 +84,7 @@ fn fill_layers(
     a: usize,
     run: usize,
     list: &[usize],
-    marked: [bool; ENTRIES],
+    marked: [bool; FLAGS],
     few: bool,
     source: &[u16],
     table: &mut [u16],
@@ -124,7 +124,7 @@ pub fn run_of(n: usize) -> usize
 fn fill_runs(
     s: Shape,
     list: &[usize],
-    marked: [bool; ENTRIES],
+    marked: [bool; FLAGS],
     few: bool,
     source: &[u16],
     nodes: &mut [u16],
@@ -152,7 +152,7 @@ fn fill_runs(
 }
 
 // Likewise, with few multipliers worked out first, to pick from.
-fn fill_from_few(s: Shape, list: &[usize], marked: [bool; ENTRIES], nodes: &mut [u16])
+fn fill_from_few(s: Shape, list: &[usize], marked: [bool; FLAGS], nodes: &mut [u16])
     requires { ⌜ (shapeBad s ≡ false) × Fillable (s .n) (size s) (now list) (now nodes) × Marks (s .n) (now list) marked × (patterns marked (s .n) ≤ mostPlaces) ⌝ }
     ensures { λ _. ⌜ Filled (s .n) (size s) (now (list .entry)) Everywhere (now (nodes .entry)) (now (nodes .exit)) ⌝ }
 {

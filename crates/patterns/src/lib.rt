@@ -3,7 +3,7 @@
 // nodes 0.
 use rows::RUN;
 use shape::two_to;
-use tables::ENTRIES;
+use tables::FLAGS;
 use tables::multipliers_at;
 ghost use mathlib.Core.Path.{_≡_};
 ghost use mathlib.Core.Bool.{true};
@@ -26,7 +26,7 @@ pub fn bit(a: usize, i: usize) -> usize
 }
 
 // How many patterns the bits at the nodes that are not listed make.
-pub fn count(n: usize, marked: [bool; ENTRIES]) -> usize
+pub fn count(n: usize, marked: [bool; FLAGS]) -> usize
     requires { ⌜ n ≤ mostNodes ⌝ }
     ensures { λ out. ⌜ out ≡ patterns marked n ⌝ }
 {
@@ -41,7 +41,7 @@ pub fn count(n: usize, marked: [bool; ENTRIES]) -> usize
 }
 
 // Whether they are so few, and the places so many, that picking pays.
-pub fn pays(n: usize, marked: [bool; ENTRIES]) -> bool
+pub fn pays(n: usize, marked: [bool; FLAGS]) -> bool
     requires { ⌜ n ≤ mostNodes ⌝ }
     ensures { λ few. ⌜ (few ≡ true → patterns marked n ≤ mostPlaces) ⌝ }
 {
@@ -57,7 +57,7 @@ pub fn pays(n: usize, marked: [bool; ENTRIES]) -> bool
 }
 
 // The number with a pattern's bits at the nodes that are not listed, and 0 at those that are.
-fn number_of(n: usize, marked: [bool; ENTRIES], pattern: usize) -> usize
+fn number_of(n: usize, marked: [bool; FLAGS], pattern: usize) -> usize
     requires { ⌜ n ≤ mostNodes ⌝ }
     ensures { λ out. ⌜ Stands n marked pattern out ⌝ }
 {
@@ -77,7 +77,7 @@ fn number_of(n: usize, marked: [bool; ENTRIES], pattern: usize) -> usize
 }
 
 // Such a number for each pattern.
-fn numbers_of(n: usize, marked: [bool; ENTRIES], count: usize) -> [usize; RUN]
+fn numbers_of(n: usize, marked: [bool; FLAGS], count: usize) -> [usize; RUN]
     requires { ⌜ (n ≤ mostNodes) × (count ≤ mostPlaces) ⌝ }
     ensures { λ out. ⌜ (length out ≡ mostPlaces) × ((p : ℕ) → p < count → Stands n marked p (element out p)) ⌝ }
 {
@@ -89,7 +89,7 @@ fn numbers_of(n: usize, marked: [bool; ENTRIES], count: usize) -> [usize; RUN]
 }
 
 // Their multipliers in each node below m that is not listed.
-pub fn represent(n: usize, m: usize, list: &[usize], marked: [bool; ENTRIES], table: &mut [u16])
+pub fn represent(n: usize, m: usize, list: &[usize], marked: [bool; FLAGS], table: &mut [u16])
     requires { ⌜ (n ≤ mostNodes) × (m ≤ n) × (patterns marked n ≤ mostPlaces) × (rising 0 n (now list) ≡ true) × Marks n (now list) marked × (length (now table) ≡ tableSize) × Low (narrow .modulus) (now table) ⌝ }
     ensures { λ _. ⌜ Represented n marked (now (list .entry)) m (now (table .exit)) ⌝ }
 {
@@ -109,7 +109,7 @@ fn lengthen(node: usize, a: usize, run: usize, row: &mut [usize; RUN])
 }
 
 // The patterns of a, a + 1, ..
-pub fn patterns_of(n: usize, marked: [bool; ENTRIES], a: usize, run: usize) -> [usize; RUN]
+pub fn patterns_of(n: usize, marked: [bool; FLAGS], a: usize, run: usize) -> [usize; RUN]
     requires { ⌜ (n ≤ mostNodes) × (run ≤ mostPlaces) × (a + run ≤ 2 ^ mostNodes) ⌝ }
     ensures { λ out. ⌜ (length out ≡ mostPlaces) × ((t : ℕ) → t < run → element out t ≡ pattern marked (a + t) n) ⌝ }
 {

@@ -4,7 +4,7 @@ use patterns::bit;
 use patterns::count;
 use patterns::patterns_of;
 use rows::RUN;
-use tables::ENTRIES;
+use tables::FLAGS;
 use tables::multipliers;
 ghost use mathlib.Core.Path.{_≡_};
 ghost use mathlib.Core.Bool.{Bool, true, false};
@@ -84,7 +84,7 @@ fn pick(
     a: usize,
     run: usize,
     list: &[usize],
-    marked: [bool; ENTRIES],
+    marked: [bool; FLAGS],
     source: &[u16],
     table: &mut [u16],
 )
@@ -108,7 +108,7 @@ pub fn run_multipliers(
     a: usize,
     run: usize,
     list: &[usize],
-    marked: [bool; ENTRIES],
+    marked: [bool; FLAGS],
     few: bool,
     source: &[u16],
     table: &mut [u16],

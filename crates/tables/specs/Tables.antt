@@ -16,6 +16,10 @@ use Rattle.multipliers.specs.Multipliers.{differences, multiplier}
 abbrev pub mostEntries : ℕ
 mostEntries = mostNodes + 1
 
+-- how many flags there are, of which the first are the entries'
+abbrev pub flags : ℕ
+flags = 16
+
 -- the elements of the rows of points of all entries, and of the rows of all multipliers
 abbrev pub pointsSize : ℕ
 pointsSize = mostEntries * mostPlaces
@@ -50,12 +54,12 @@ pub record Columns (n : ℕ) (P : ℕ → List ℕ) : Type 0 where
 
 -- entry i says whether node i is listed
 pub record Marks (n : ℕ) (list : List ℕ) (marked : List Bool) : Type 0 where
-  pub long : length marked ≡ mostEntries
+  pub long : length marked ≡ flags
   pub each : (i : ℕ) → i < n → getD marked i false ≡ member i list
 
 -- entry i says whether node i is not listed, and entry n is false
 pub record Idle (n : ℕ) (list : List ℕ) (idle : List Bool) : Type 0 where
-  pub long : length idle ≡ mostEntries
+  pub long : length idle ≡ flags
   pub each : (i : ℕ) → i < n → getD idle i false ≡ not (member i list)
   pub behind : getD idle n false ≡ false
 

@@ -19,7 +19,10 @@ ghost use Rattle.rows.specs.Rows.{mostPlaces, Low, Stored};
 ghost use Rattle.tables.specs.Tables.{mostEntries, pointsSize, tableSize, pointOf, oppositeOf, nodePoints, entryPoints, PointRows, Columns, Marks, Idle, DifferenceRow, RowsOver, TableOver, TableOf, Table};
 
 // The most entries of a column: the nodes', and one behind them.
-pub const ENTRIES: usize = MOST_NODES + 1;
+const ENTRIES: usize = MOST_NODES + 1;
+
+// A flag for each entry. There are more, so that they are copied in whole words, and read again without waiting for that.
+pub const FLAGS: usize = 16;
 
 // A row of points for each entry.
 const POINTS: usize = ENTRIES * RUN;
@@ -28,11 +31,11 @@ const POINTS: usize = ENTRIES * RUN;
 pub const TABLE: usize = MOST_NODES * MOST_NODES * RUN;
 
 // Which of n entries are listed.
-pub fn marks(n: usize, list: &[usize]) -> [bool; ENTRIES]
+pub fn marks(n: usize, list: &[usize]) -> [bool; FLAGS]
     requires { ⌜ n ≤ mostEntries ⌝ }
     ensures { λ out. ⌜ Marks n (now (list .entry)) out ⌝ }
 {
-    let mut out = [false; ENTRIES];
+    let mut out = [false; FLAGS];
     for i in 0..n {
         out[i] = listed(list, i);
     }
@@ -40,11 +43,11 @@ pub fn marks(n: usize, list: &[usize]) -> [bool; ENTRIES]
 }
 
 // Which of n nodes are not listed; the entry behind them is none of them.
-pub fn idle(n: usize, list: &[usize]) -> [bool; ENTRIES]
+pub fn idle(n: usize, list: &[usize]) -> [bool; FLAGS]
     requires { ⌜ n ≤ mostNodes ⌝ }
     ensures { λ out. ⌜ Idle n (now (list .entry)) out ⌝ }
 {
-    let mut out = [false; ENTRIES];
+    let mut out = [false; FLAGS];
     for i in 0..n {
         out[i] = !listed(list, i);
     }
@@ -86,7 +89,7 @@ fn differences(
     n: usize,
     run: usize,
     points: &[u32],
-    marked: [bool; ENTRIES],
+    marked: [bool; FLAGS],
     i: usize,
     x: usize,
 ) -> [u32; RUN]
@@ -109,7 +112,7 @@ fn entry_rows(
     run: usize,
     points: &[u32],
     list: &[usize],
-    marked: [bool; ENTRIES],
+    marked: [bool; FLAGS],
     i: usize,
     table: &mut [u16],
 )
@@ -132,8 +135,8 @@ fn all_rows(
     run: usize,
     points: &[u32],
     list: &[usize],
-    marked: [bool; ENTRIES],
-    skipped: [bool; ENTRIES],
+    marked: [bool; FLAGS],
+    skipped: [bool; FLAGS],
     table: &mut [u16],
 )
     requires { ⌜ (n ≤ mostEntries) × (m ≤ n) × (run ≤ mostPlaces) × (length (now points) ≡ pointsSize) × Low (narrow .modulus) (now points) × (rising 0 n (now list) ≡ true) × (n * length (now list) * mostPlaces ≤ tableSize) ⌝ }
@@ -155,7 +158,7 @@ pub fn multipliers_at(
     each: &[usize],
     run: usize,
     list: &[usize],
-    marked: [bool; ENTRIES],
+    marked: [bool; FLAGS],
     table: &mut [u16],
 )
     requires { ⌜ (n ≤ mostNodes) × (m ≤ n) × (run ≤ mostPlaces) × (run ≤ length (now each)) × (rising 0 n (now list) ≡ true) × Marks n (now list) marked × (length (now table) ≡ tableSize) × Low (narrow .modulus) (now table) ⌝ }
@@ -174,8 +177,8 @@ pub fn entry_multipliers(
     each: &[usize],
     run: usize,
     list: &[usize],
-    marked: [bool; ENTRIES],
-    skipped: [bool; ENTRIES],
+    marked: [bool; FLAGS],
+    skipped: [bool; FLAGS],
     table: &mut [u16],
 )
     requires { ⌜ (n ≤ mostNodes) × (i < n) × (run ≤ mostPlaces) × (run ≤ length (now each)) × (rising 0 (n + 1) (now list) ≡ true) × ((n + 1) * length (now list) * mostPlaces ≤ tableSize) ⌝ }
@@ -196,7 +199,7 @@ pub fn multipliers(
     a: usize,
     run: usize,
     list: &[usize],
-    marked: [bool; ENTRIES],
+    marked: [bool; FLAGS],
     table: &mut [u16],
 )
     requires { ⌜ (n ≤ mostNodes) × (m ≤ n) × (run ≤ mostPlaces) × (a + run ≤ 2 ^ mostNodes) × (rising 0 n (now list) ≡ true) × Marks n (now list) marked × (length (now table) ≡ tableSize) × Low (narrow .modulus) (now table) ⌝ }

@@ -7,19 +7,19 @@ use lib.ListN.{length, getD, length-set, getD-replicate}
 use lib.Seq.{getD-set-other}
 use Rattle.lists.specs.Lists.{member}
 use Rattle.lists.proofs.Stores.{stored-more}
-use Rattle.tables.specs.Tables.{mostEntries}
+use Rattle.tables.specs.Tables.{flags}
 use borrow.Author.Needs.{needs}
 use Rattle.tables.proofs.idle.Statement.{statement}
 use Rattle.tables.proofs.idle.Tie as tie
 
 abbrev Inv-loop : tie.InvT-loop
-Inv-loop n list out₀ i₀ out i = (i ≤ n) × (length out ≡ mostEntries) × ((k : ℕ) → k < i → getD out k false ≡ not (member k list)) × (getD out n false ≡ false)
+Inv-loop n list out₀ i₀ out i = (i ≤ n) × (length out ≡ flags) × ((k : ℕ) → k < i → getD out k false ≡ not (member k list)) × (getD out n false ≡ false)
 
 abbrev μ-loop : tie.MeasureT-loop
 μ-loop n list out₀ i₀ out i = n - i
 
 loop-holds : tie.Need-loop-holds Inv-loop μ-loop
-loop-holds c = (search needs, search needs, λ k h. absurd (omega arith), getD-replicate {A = Bool} mostEntries (c .before .args .n) false false (omega arith))
+loop-holds c = (search needs, search needs, λ k h. absurd (omega arith), getD-replicate {A = Bool} flags (c .before .args .n) false false (omega arith))
 
 loop-again : tie.Need-loop-again Inv-loop μ-loop
 loop-again c =

@@ -6,13 +6,13 @@ use native.Mathlib.Omega.{arith}
 use lib.ListN.{length, getD, length-set}
 use Rattle.lists.specs.Lists.{member}
 use Rattle.lists.proofs.Stores.{stored-more}
-use Rattle.tables.specs.Tables.{mostEntries}
+use Rattle.tables.specs.Tables.{flags}
 use borrow.Author.Needs.{needs}
 use Rattle.tables.proofs.marks.Statement.{statement}
 use Rattle.tables.proofs.marks.Tie as tie
 
 abbrev Inv-loop : tie.InvT-loop
-Inv-loop n list out₀ i₀ out i = (i ≤ n) × (length out ≡ mostEntries) × ((k : ℕ) → k < i → getD out k false ≡ member k list)
+Inv-loop n list out₀ i₀ out i = (i ≤ n) × (length out ≡ flags) × ((k : ℕ) → k < i → getD out k false ≡ member k list)
 
 abbrev μ-loop : tie.MeasureT-loop
 μ-loop n list out₀ i₀ out i = n - i
