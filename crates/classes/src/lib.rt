@@ -29,7 +29,7 @@ pub struct Layout {
     pub batches: usize,
     // H of document 01, the highest class.
     pub top: usize,
-    // The a of a class: each has as many.
+    // How many a are of a class: as many of each.
     pub members: usize,
     // N/(h+1), the symbols of a message.
     pub share: usize,

@@ -61,8 +61,8 @@ pub fn message_to(g: Layout, dead: &[usize], u: usize, symbols: &[u16], message:
     ensures { λ _. ⌜ now (message .exit) ≡ helperMessage narrow (g .shape) (now (dead .entry)) u (now (symbols .entry)) ⌝ }
 {
     if g.places <= FEW {
-        let mut table = [0u16; FEW];
-        message_with(g, dead, u, &mut table, symbols, message);
+        let mut few = [0u16; FEW];
+        message_with(g, dead, u, &mut few, symbols, message);
     } else {
         let mut table = [0u16; MEMBERS];
         message_with(g, dead, u, &mut table, symbols, message);
@@ -232,9 +232,9 @@ pub fn recover(g: Layout, dead: &[usize], v: usize, received: &[u16], symbols: &
     ensures { λ _. ⌜ Recovers narrow (g .shape) (now (dead .entry)) v (now (received .entry)) (now (symbols .entry)) (now (symbols .exit)) ⌝ }
 {
     if g.places <= FEW {
-        let mut table = [0u16; FEW];
-        list_members(g, dead, 0, &mut table);
-        recover_with(g, dead, v, 0, &mut table, received, symbols);
+        let mut few = [0u16; FEW];
+        list_members(g, dead, 0, &mut few);
+        recover_with(g, dead, v, 0, &mut few, received, symbols);
     } else {
         let mut table = [0u16; MEMBERS];
         list_members(g, dead, 0, &mut table);
@@ -278,9 +278,9 @@ pub fn second(
     ensures { λ _. ⌜ now (symbols .exit) ≡ contents narrow (g .shape) (now (dead .entry)) v (now (pairs .entry)) (now (received .entry)) ⌝ }
 {
     if g.places <= FEW {
-        let mut table = [0u16; FEW];
-        pairs_with(g, dead, v, &mut table, pairs, symbols);
-        recover_rest(g, dead, v, &mut table, received, symbols);
+        let mut few = [0u16; FEW];
+        pairs_with(g, dead, v, &mut few, pairs, symbols);
+        recover_rest(g, dead, v, &mut few, received, symbols);
     } else {
         let mut table = [0u16; MEMBERS];
         pairs_with(g, dead, v, &mut table, pairs, symbols);
