@@ -1,9 +1,9 @@
 -- What the loops over the members of a rank's class do in the symbols of one batch.
 use mathlib.Core.Path.{_≡_}
 use mathlib.Core.List.{List}
-use Prim.Native.Nat.{ℕ, _+_, _*_, _%_, _<_}
+use Prim.Native.Nat.{ℕ, zero, suc, _+_, _*_, _%_, _<_}
 use lib.Bits.{bitXor}
-use lib.ListN.{length, getD}
+use lib.ListN.{length, getD, set}
 use Rattle.field.specs.Residues.{minus}
 use Rattle.code.specs.Code.{Code}
 
@@ -42,6 +42,15 @@ pub record LowNear (q : ℕ) (members : List ℕ) (near : ℕ) (symbols : List �
 -- what is left of sum x where the symbol at its near place is taken away
 unfoldable pub leftIn : Code → List ℕ → ℕ → List ℕ → List ℕ → ℕ → ℕ
 leftIn c members near sums symbols x = minus (c .modulus) (getD sums x 0) (getD symbols (turned members near x) 0)
+
+-- these symbols, with `count` values put at their places, one behind the other
+unfoldable pub puts : (ℕ → ℕ) → (ℕ → ℕ) → ℕ → List ℕ → List ℕ
+puts place value zero symbols = symbols
+puts place value (suc count) symbols = set (puts place value count symbols) (place count) (value count)
+
+-- these symbols, with what is left of `count` sums from x on at their far places
+unfoldable pub crossedFrom : Code → List ℕ → ℕ → ℕ → List ℕ → List ℕ → ℕ → ℕ → List ℕ
+crossedFrom c members near far sums symbols x count = puts (λ i. turned members far (x + i)) (λ i. leftIn c members near sums symbols (x + i)) count symbols
 
 -- the first `count` values stand at their places, and elsewhere what stood there
 pub record Stored (count : ℕ) (place value : ℕ → ℕ) (before after : List ℕ) : Type 0 where

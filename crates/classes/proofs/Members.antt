@@ -8,9 +8,11 @@ use native.Mathlib.Numerals.{add-one}
 use native.Mathlib.Omega.{arith}
 use lib.ListN.{length, getD, set, take, length-append, length-set}
 use lib.Seq.{take-suc-set, take-set-le, getD-take}
+use Rattle.lists.specs.Lists.{range}
+use Rattle.lists.proofs.Tables.{range-length, range-at, range-more}
 use Rattle.lists.proofs.Picked.{picked-none, picked-yes, picked-no}
 use Rattle.shape.specs.declared.Shape.{Shape}
-use Rattle.classes.specs.Classes.{batch, top, classOf, rankClass, Sum, spot, spotAt, inClass, members, sumAt}
+use Rattle.classes.specs.Classes.{batch, top, classBy, classOf, rankClass, Sum, spot, spotAt, inClass, members, sumAt}
 use Rattle.classes.specs.Layout.{Fronted}
 use Rattle.classes.proofs.Dead.{Dead}
 use Rattle.classes.proofs.Counts.{members-size}
@@ -99,3 +101,22 @@ module _ (s : Shape) (dead : List ℕ) (u b x : ℕ) (h : b < s .layers / batch 
 
   pub member-spot : spotAt s dead u (b * length (members dead (rankClass dead u) (2 ^ s .n)) + x) ≡ spot s dead u b (getD (members dead (rankClass dead u) (2 ^ s .n)) x 0)
   member-spot = spot-number s dead u b a _ member-sum member-number
+
+-- Where there is one class, it has every a.
+module _ (dead : List ℕ) (one : top dead ≡ 0) where
+  in-one : (a : ℕ) → inClass dead 0 a ≡ true
+  unfolding inClass classOf classBy
+  in-one a = rw one
+
+  pub one-class : (n : ℕ) → members dead 0 n ≡ range 0 n
+  unfolding members range
+  one-class zero = picked-none (inClass dead 0)
+  one-class (suc a) = members-yes dead 0 a (in-one a) ∙ ap (λ l. l ++ a ∷ []) (one-class a) ∙ ap (λ z. range 0 a ++ z ∷ []) (let e : a ≡ 0 + a = omega arith in e) ∙ sym (range-more 0 a)
+
+  pub all-listed : (n : ℕ) (out : List ℕ) → ((x : ℕ) → x < 2 ^ n → getD out x 0 ≡ x) → Fronted dead 0 n out
+  all-listed n out h = record {
+    each = λ x l.
+        let k : x < 2 ^ n = omega (arith, ap length (one-class (2 ^ n)), range-length 0 (2 ^ n)) in
+        let e : x ≡ 0 + x = omega arith in
+        h x k ∙ e ∙ sym (range-at 0 (2 ^ n) x k) ∙ ap (λ z. getD z x 0) (sym (one-class (2 ^ n)));
+  }

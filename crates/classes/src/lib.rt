@@ -7,7 +7,7 @@ ghost use mathlib.Core.Bool.{true, false, cond};
 ghost use Prim.Native.Nat.{ℕ, _+_, _*_, _/_, _%_, _^_, _≤_, _<_};
 ghost use lib.Bits.{bitXor};
 ghost use lib.Dec.{eqb};
-ghost use lib.ListN.{length};
+ghost use lib.ListN.{length, getD};
 ghost use Rattle.lists.specs.Digits.{bit};
 ghost use Rattle.shape.specs.Shape.{mostNodes, size};
 ghost use Rattle.shape.specs.Refusals.{shapeBad};
@@ -133,12 +133,26 @@ pub fn class_size(g: Layout, dead: &[usize]) -> usize
     g.members
 }
 
+// Every a of a layer, rising, in the front of a table.
+fn list_all(places: usize, out: &mut [u16])
+    requires { ⌜ (places ≤ length (now out)) × (places ≤ 2 ^ mostNodes) ⌝ }
+    ensures { λ _. ⌜ ((x : ℕ) → x < places → getD (now (out .exit)) x 0 ≡ x) ⌝ }
+{
+    for a in 0..places {
+        out[a] = a as u16;
+    }
+}
+
 // The a of class c, rising, in the front of a table. What is written at x is written over where its a is not of the class.
 pub fn list_members(g: Layout, dead: &[usize], c: usize, out: &mut [u16])
     requires { ⌜ (Ready (now dead) g) × (g .places ≤ length (now out)) ⌝ }
     ensures { λ _. ⌜ Fronted (now (dead .entry)) c (g .shape .n) (now (out .exit)) ⌝ }
 {
     let places = g.places;
+    if (g.top == 0) & (c == 0) {
+        list_all(places, out);
+        return;
+    }
     let mut x = 0;
     for a in 0..places {
         out[x] = a as u16;

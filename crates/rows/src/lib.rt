@@ -10,6 +10,15 @@ ghost use Rattle.rows.specs.Rows.{mostPlaces, mostModulus, Low, Stored, 
 // The most places of a row.
 pub const RUN: usize = 64;
 
+// The length of the run from `first` on: what is left where that is less.
+pub fn run_from(size: usize, first: usize) -> usize
+    requires { ⌜ first < size ⌝ }
+    ensures { λ run. ⌜ (0 < run) × (run ≤ mostPlaces) × (first + run ≤ size) ⌝ }
+{
+    let left = size - first;
+    if left < RUN { left } else { RUN }
+}
+
 fn wide(x: u16) -> u32
     ensures { λ r. ⌜ r ≡ x ⌝ }
 {

@@ -122,15 +122,6 @@ pub fn hand_out(
     }
 }
 
-// The members of a run: those that are left where they are few.
-pub fn run_from(size: usize, first: usize) -> usize
-    requires { ⌜ first < size ⌝ }
-    ensures { λ run. ⌜ (0 < run) × (run ≤ mostPlaces) × (first + run ≤ size) ⌝ }
-{
-    let left = size - first;
-    if left < RUN { left } else { RUN }
-}
-
 // The multipliers that rank u needs at a run of the members of its class.
 pub fn run_table(
     g: Layout,

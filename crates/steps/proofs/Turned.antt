@@ -1,19 +1,22 @@
 -- The sums of a batch by the members of a rank's class: member x turned is a place of sum x. What the loops over the batches leave.
 use mathlib.Core.Path.{_≡_, refl, sym, ap, ap₂, _∙_}
 use mathlib.Core.Logic.{_⊎_, inl, inr}
+use mathlib.Core.Bool.{true}
 use mathlib.Core.List.{List}
 use Prim.Native.Nat.{ℕ, zero, suc, _+_, _*_, _-_, _/_, _%_, _^_, _≤_, _<_}
 use native.Mathlib.Nat.{mul-one, mul-zero, div-add-mod', mod-lt, div-lt-iff-lt-mul, mul-le-mul}
 use native.Mathlib.Omega.{arith}
+use borrow.Author.Tests.{eqb-true}
 use lib.Arith.{digits-lt}
 use lib.Bits.{bitXor, xor-zero-l, xor-block}
+use lib.Dec.{eqb}
 use lib.ListN.{length, getD, take, length-take, List·getD-eq-default}
 use lib.Pow.{pow-lt}
 use lib.Seq.{ext-getD, getD-take}
-use Rattle.lists.specs.Lists.{tabulate, piece, element}
+use Rattle.lists.specs.Lists.{tabulate, range, piece, element}
 use Rattle.lists.specs.Digits.{flip}
 use Rattle.lists.proofs.Tests.{below-or-not}
-use Rattle.lists.proofs.Tables.{is-tabulate, tabulate-at}
+use Rattle.lists.proofs.Tables.{is-tabulate, tabulate-at, range-length}
 use Rattle.lists.proofs.Flats.{piece-at}
 use Rattle.lists.proofs.Xors.{flip-xor}
 use Rattle.field.specs.Residues.{minus}
@@ -31,7 +34,7 @@ use Rattle.classes.proofs.Counts.{message-is}
 use Rattle.classes.proofs.Sums.{member-lt, member-at, sumAt-is, sumAt-all}
 use Rattle.classes.proofs.Layouts.{ready-dead, bounded, placed, share-high}
 use Rattle.classes.proofs.Messages.{messageAt, message-table, spot-number}
-use Rattle.classes.proofs.Members.{member-is, member-sum, members-few}
+use Rattle.classes.proofs.Members.{member-is, member-sum, members-few, one-class}
 use Rattle.steps.specs.Storing.{sumSymbol, Paired, LowAt, Crossed}
 use Rattle.batches.specs.Batches.{turned, Apart, addedIn, PairedIn, LowNear, leftIn, Stored}
 use Rattle.lists.proofs.Parts.{row-within}
@@ -270,6 +273,15 @@ tabled {dead} {g} R u class count turn table e L room n t =
     }
 
 -- a turn, or none, is no more than the layers' places
+-- where there is one class, every a is a member
+pub every : {dead : List ℕ} {g : Layout} → Ready dead g → {u : ℕ} {table : List ℕ} {count turn : ℕ} → Tabled dead g u table count turn → eqb (g .top) 0 ≡ true
+    → take count table ≡ range 0 (length (take count table))
+every {dead} {g} R {u} {table} {count} K e =
+    let n : top dead ≡ 0 = sym (R .top-is) ∙ eqb-true (g .top) 0 e in
+    let z : rankClass dead u ≡ 0 = omega (arith, rankClass-le dead u) in
+    let w : take count table ≡ range 0 (2 ^ g .shape .n) = K .front ∙ ap (λ c. members dead c (2 ^ g .shape .n)) z ∙ one-class dead n (2 ^ g .shape .n) in
+    w ∙ ap (range 0) (sym (range-length 0 (2 ^ g .shape .n)) ∙ ap length (sym w))
+
 pub turn-high : {dead : List ℕ} {g : Layout} → Ready dead g → (u turn which : ℕ) → u < length dead → turn ≡ partner dead u * 2 ^ g .shape .n + 2 ^ node dead u → which < 2 → turn * which ≤ 13 * 4096
 turn-high {dead} {g} R u turn which l e h =
     let D = ready-dead R in

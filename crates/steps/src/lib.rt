@@ -47,6 +47,7 @@ fn message_with(
         let from = b * count;
         let to = from + count;
         add_batch(
+            g.top == 0,
             &table[..count],
             turn,
             &symbols[at..end],
@@ -127,6 +128,7 @@ fn cross(
         let from = b * count;
         let to = from + count;
         cross_batch(
+            g.top == 0,
             &table[..count],
             near,
             far,

@@ -10,17 +10,17 @@ use Rattle.code.specs.Code.{narrow}
 use Rattle.classes.proofs.Layouts.{bounded}
 use Rattle.lists.proofs.Parts.{piece-part}
 use Rattle.steps.proofs.Pieces.{Pieces, pieces-none, pieces-more}
-use Rattle.steps.proofs.Turned.{BatchCrossed, turn-high, Tabled, tabled, Room, room, blocks-are, apart-by, low-by, crossed-done}
+use Rattle.steps.proofs.Turned.{BatchCrossed, turn-high, Tabled, tabled, every, Room, room, blocks-are, apart-by, low-by, crossed-done}
 use borrow.Author.Needs.{needs}
 use Rattle.steps.proofs.cross.Statement.{statement}
 use Rattle.steps.proofs.cross.Tie as tie
 
 abbrev Inv-loop : tie.InvT-loop
-Inv-loop dead u which table sums symbols₀ count turn near far block batches b₀ symbols b =
+Inv-loop g dead u which table sums symbols₀ count turn near far block batches b₀ symbols b =
     (b ≤ batches) × Pieces batches block (BatchCrossed narrow (take count table) near far sums) b symbols₀ symbols
 
 abbrev μ-loop : tie.MeasureT-loop
-μ-loop dead u which table sums symbols₀ count turn near far block batches b₀ symbols b = batches - b
+μ-loop g dead u which table sums symbols₀ count turn near far block batches b₀ symbols b = batches - b
 
 -- the rank's table
 known : (c : tie.At-loop Inv-loop μ-loop) → let a = c .before .before .before .before .before .before .before .before .args in Tabled (a .dead .now) (a .g) (a .u) (c .before .before .before .before .before .before .before .before .args .table .now) (c .before .before .before .class-size .result) (c .before .before .turn-of .result)
@@ -57,23 +57,23 @@ add-to : tie.Need-add-to Inv-loop μ-loop
 add-to c = omega (arith, part c)
 
 slice-aggregate-cross-batch : tie.Need-slice-aggregate-cross-batch Inv-loop μ-loop
-slice-aggregate-cross-batch c = let k = known (c .before .before) in k .count-is ∙ ap length (sym (k .front))
+slice-aggregate-cross-batch c = let k = known (c .before .before .before) in k .count-is ∙ ap length (sym (k .front))
 
 mul-cross-batch : tie.Need-mul-cross-batch Inv-loop μ-loop
-mul-cross-batch c = omega (arith, part (c .before))
+mul-cross-batch c = omega (arith, part (c .before .before))
 
 part-cross-batch-end : tie.Need-part-cross-batch-end Inv-loop μ-loop
-part-cross-batch-end c = omega (arith, part (c .before), c .before .before .before .before .before .before .before .before .before .before .pre .0 .5)
+part-cross-batch-end c = omega (arith, part (c .before .before), c .before .before .before .before .before .before .before .before .before .before .before .pre .0 .5)
 
 mul-cross-batch-2 : tie.Need-mul-cross-batch-2 Inv-loop μ-loop
-mul-cross-batch-2 c = omega (arith, part (c .before .before))
+mul-cross-batch-2 c = omega (arith, part (c .before .before .before))
 
 part-cross-batch-end-2 : tie.Need-part-cross-batch-end-2 Inv-loop μ-loop
-part-cross-batch-end-2 c = let r = part (c .before .before) in omega (arith, r .block, c .before .before .before .before .before .before .before .before .before .before .before .pre .0 .6, c .before .before .before .loop .inv .1 .long)
+part-cross-batch-end-2 c = let r = part (c .before .before .before) in omega (arith, r .block, c .before .before .before .before .before .before .before .before .before .before .before .before .pre .0 .6, c .before .before .before .before .loop .inv .1 .long)
 
 cross-batch-requires : tie.Need-cross-batch-requires Inv-loop μ-loop
 cross-batch-requires c κs =
-    let i = c .before .before .before in
+    let i = c .before .before .before .before in
     let st = i .before .before .before .before .before .before .before .before .before in
     let l = i .before .loop in
     let k = known (i .before) in
@@ -85,7 +85,7 @@ cross-batch-requires c κs =
     let n : length members ≡ count = ap length (k .front) ∙ sym (k .count-is) in
     let long : length (take (l .b * block + block - l .b * block) (drop (l .b * block) (l .symbols))) ≡ block = simp (length-take, length-drop) (omega (arith, r .block, st .pre .0 .6, l .inv .1 .long)) in
     let h : l .b < st .args .g .batches = omega arith in (
-      (rw long (apart-by (st .pre .0 .0) _ (st .pre .0 .1) _ _ _ k (l .b) h (st .args .which) (st .pre .0 .4)), rw n (simp (length-take, length-drop) (omega (arith, r .sums, st .pre .0 .5)))),
+      (every (st .pre .0 .0) k, rw long (apart-by (st .pre .0 .0) _ (st .pre .0 .1) _ _ _ k (l .b) h (st .args .which) (st .pre .0 .4)), rw n (simp (length-take, length-drop) (omega (arith, r .sums, st .pre .0 .5)))),
       (
         low-part _ (l .b * count + count - l .b * count) (l .b * count) _ (st .pre .1 .0),
         rw (piece-part block (l .b) (l .symbols) ∙ l .inv .1 .left (l .b) (omega arith) h) (low-by (st .pre .0 .0) _ (st .pre .0 .1) _ _ _ k _ (l .b) h (1 - st .args .which) (omega arith) _ (st .pre .1 .1)),
@@ -94,7 +94,7 @@ cross-batch-requires c κs =
 
 loop-again : tie.Need-loop-again Inv-loop μ-loop
 loop-again c =
-    let i = c .before .before .before .before .before .before in
+    let i = c .before .before .before .before .before .before .before in
     let st = i .before .before .before .before .before .before .before .before .before in
     let l = i .before .loop in
     let k = known (i .before) in
@@ -110,7 +110,7 @@ loop-again c =
     piece-part count (l .b) (st .args .sums .now) ∙ ap (λ z. piece z (l .b) (st .args .sums .now)) (sym n) in (
       search needs,
       pieces-more (st .args .g .batches) block (BatchCrossed narrow members (turn * (1 - st .args .which)) (turn * st .args .which) (st .args .sums .now)) (st .args .symbols .now) (l .b) (l .symbols) _
-          (st .pre .0 .6 ∙ sym (blocks-are (st .pre .0 .0) _ (st .pre .0 .1) _ _ _ k)) (omega arith) (l .inv .1) (rw (e, piece-part block (l .b) (l .symbols)) at (m .ensures)) (m .kept .1 .1 .1 .1 .0 ∙ long),
+          (st .pre .0 .6 ∙ sym (blocks-are (st .pre .0 .0) _ (st .pre .0 .1) _ _ _ k)) (omega arith) (l .inv .1) (rw (e, piece-part block (l .b) (l .symbols)) at (m .ensures)) (m .kept .1 .1 .1 .1 .1 .0 ∙ long),
     )
 
 same-length : tie.Need-same-length Inv-loop μ-loop

@@ -11,17 +11,17 @@ use Rattle.code.specs.Code.{narrow}
 use Rattle.classes.proofs.Layouts.{bounded}
 use Rattle.lists.proofs.Parts.{piece-part}
 use Rattle.steps.proofs.Pieces.{Pieces, pieces-none, pieces-more}
-use Rattle.steps.proofs.Turned.{BatchAdded, Tabled, tabled, Room, room, sums-are, apart-other, message-done}
+use Rattle.steps.proofs.Turned.{BatchAdded, Tabled, tabled, every, Room, room, sums-are, apart-other, message-done}
 use borrow.Author.Needs.{needs}
 use Rattle.steps.proofs.message_with.Statement.{statement}
 use Rattle.steps.proofs.message_with.Tie as tie
 
 abbrev Inv-loop : tie.InvT-loop
-Inv-loop dead u table symbols message₀ count turn block batches b₀ message b =
+Inv-loop g dead u table symbols message₀ count turn block batches b₀ message b =
     (b ≤ batches) × Pieces batches count (BatchAdded narrow (take count table) turn block symbols) b message₀ message
 
 abbrev μ-loop : tie.MeasureT-loop
-μ-loop dead u table symbols message₀ count turn block batches b₀ message b = batches - b
+μ-loop g dead u table symbols message₀ count turn block batches b₀ message b = batches - b
 
 -- the rank's table
 known : (c : tie.At-loop Inv-loop μ-loop) → let a = c .before .before .before .before .before .before .before .before .before .before .before .before .before .args in Tabled (a .dead .now) (a .g) (a .u) (c .before .before .before .before .before .before .list-members .last .1 .1 .1 .0) (c .before .before .before .class-size .result) (c .before .before .turn-of .result)
@@ -52,36 +52,36 @@ add-to : tie.Need-add-to Inv-loop μ-loop
 add-to c = omega (arith, part c)
 
 slice-reshare-prefix-add-batch : tie.Need-slice-reshare-prefix-add-batch Inv-loop μ-loop
-slice-reshare-prefix-add-batch c = known (c .before) .few
+slice-reshare-prefix-add-batch c = known (c .before .before) .few
 
 slice-aggregate-add-batch : tie.Need-slice-aggregate-add-batch Inv-loop μ-loop
-slice-aggregate-add-batch c = let k = known (c .before .before) in k .count-is ∙ ap length (sym (k .front))
+slice-aggregate-add-batch c = let k = known (c .before .before .before) in k .count-is ∙ ap length (sym (k .front))
 
 mul-add-batch : tie.Need-mul-add-batch Inv-loop μ-loop
-mul-add-batch c = omega (arith, part (c .before))
+mul-add-batch c = omega (arith, part (c .before .before))
 
 part-add-batch-end : tie.Need-part-add-batch-end Inv-loop μ-loop
-part-add-batch-end c = omega (arith, part (c .before))
+part-add-batch-end c = omega (arith, part (c .before .before))
 
 mul-add-batch-2 : tie.Need-mul-add-batch-2 Inv-loop μ-loop
-mul-add-batch-2 c = omega (arith, part (c .before .before))
+mul-add-batch-2 c = omega (arith, part (c .before .before .before))
 
 part-add-batch-end-2 : tie.Need-part-add-batch-end-2 Inv-loop μ-loop
-part-add-batch-end-2 c = let r = part (c .before .before) in omega (arith, r .sums, c .before .before .before .before .before .before .before .before .before .before .before .before .before .before .before .before .pre .4, c .before .before .before .loop .inv .1 .long)
+part-add-batch-end-2 c = let r = part (c .before .before .before) in omega (arith, r .sums, c .before .before .before .before .before .before .before .before .before .before .before .before .before .before .before .before .before .pre .4, c .before .before .before .before .loop .inv .1 .long)
 
 add-batch-requires : tie.Need-add-batch-requires Inv-loop μ-loop
 add-batch-requires c κs =
-    let st = c .before .before .before .before .before .before .before .before .before .before .before .before .before .before .before .before .before in
-    let i = c .before .before .before in
+    let st = c .before .before .before .before .before .before .before .before .before .before .before .before .before .before .before .before .before .before in
+    let i = c .before .before .before .before in
     let k = known (i .before) in
     let r = part i in
     let n : length (take (i .before .before .before .before .class-size .result) (i .before .before .before .before .before .before .before .list-members .last .1 .1 .1 .0)) ≡ i .before .before .before .before .class-size .result = ap length (k .front) ∙ sym (k .count-is) in
     let e : length (take (i .before .loop .b * (st .args .g .batch * st .args .g .places) + st .args .g .batch * st .args .g .places - i .before .loop .b * (st .args .g .batch * st .args .g .places)) (drop (i .before .loop .b * (st .args .g .batch * st .args .g .places)) (st .args .symbols .now))) ≡ st .args .g .batch * st .args .g .places = simp (length-take, length-drop) (omega (arith, r .block, st .pre .3)) in
-    (rw e (apart-other (st .pre .0) _ (st .pre .1) _ _ _ k (i .before .loop .b) (omega arith)), rw n (simp (length-take, length-drop) (omega (arith, r .sums, st .pre .4, i .before .loop .inv .1 .long))))
+    (every (st .pre .0) k, rw e (apart-other (st .pre .0) _ (st .pre .1) _ _ _ k (i .before .loop .b) (omega arith)), rw n (simp (length-take, length-drop) (omega (arith, r .sums, st .pre .4, i .before .loop .inv .1 .long))))
 
 loop-again : tie.Need-loop-again Inv-loop μ-loop
 loop-again c =
-    let i = c .before .before .before .before .before .before in
+    let i = c .before .before .before .before .before .before .before in
     let st = i .before .before .before .before .before .before .before .before .before .before .before .before .before .before in
     let l = i .before .loop in
     let k = known (i .before) in
