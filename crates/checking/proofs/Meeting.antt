@@ -80,3 +80,6 @@ module _ (s : Shape) (nodes : List ℕ) (accepted : checkRefusal narrow s nodes 
 
   pub held-met : (to : ℕ) → HeldTo s (range 0 (s .k)) nodes to → MetTo s nodes to
   held-met to w = record { high = w .high; met = λ p t within low h. met to w p within low t h }
+
+pub met-none : (s : Shape) (nodes : List ℕ) → MetTo s nodes 0
+met-none s nodes = record { high = omega arith; met = λ place t h l. absurd (omega arith) }

@@ -3,6 +3,7 @@ use code::gathered;
 use code::points_at;
 use column::parity;
 use comparing::listed_met;
+use comparing::rows_pay;
 use filling::NODES;
 use shape::Answer;
 use shape::MODULUS;
@@ -82,12 +83,25 @@ fn rows_met(s: Shape, nodes: &[u16]) -> usize
     listed_met(s, &all[..k], nodes)
 }
 
+// The first equation whose sum is not 0, looked for by rows first where that pays.
+fn search(s: Shape, nodes: &[u16]) -> Checked
+    requires { ⌜ checkRefusal narrow s (now nodes) ≡ 0 ⌝ }
+    ensures { λ found. ⌜ found ≡ checkedBy s (firstUnmet narrow s (now (nodes .entry))) ⌝ }
+{
+    let k = s.k;
+    let all = NODES;
+    if rows_pay(s, &all[..k]) {
+        return first_unmet(s, nodes, rows_met(s, nodes));
+    }
+    first_unmet(s, nodes, 0)
+}
+
 // The check of all n nodes.
 pub fn check(s: Shape, nodes: &[u16]) -> Checked
     ensures { λ answer. ⌜ Checks s (now (nodes .entry)) answer ⌝ }
 {
     match judge_check(s, nodes) {
         Answer::Refused(cause) => Checked::Refused(cause),
-        Answer::Done => first_unmet(s, nodes, rows_met(s, nodes)),
+        Answer::Done => search(s, nodes),
     }
 }

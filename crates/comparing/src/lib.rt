@@ -144,22 +144,30 @@ fn met_from_few(s: Shape, list: &[usize], marked: [bool; FLAGS], nodes: &[u16]) 
     runs_met(s, list, marked, true, &source, nodes)
 }
 
-// Likewise, where multipliers pay: with places enough, picked from few or for two layers or more. None where they do not.
+// Whether multipliers pay: with places enough, picked from few or for two layers or more.
+pub fn rows_pay(s: Shape, list: &[usize]) -> bool
+    requires { ⌜ shapeBad s ≡ false ⌝ }
+{
+    let n = s.n;
+    let layers = s.layers;
+    if n + layers < 6 {
+        return false;
+    }
+    if 1 < layers {
+        return true;
+    }
+    pays(n, marks(n, list))
+}
+
+// How many a, a run after the other, have at every layer what would be filled in, by multipliers picked from few where that pays.
 pub fn listed_met(s: Shape, list: &[usize], nodes: &[u16]) -> usize
     requires { ⌜ (shapeBad s ≡ false) × Fillable (s .n) (size s) (now list) (now nodes) ⌝ }
     ensures { λ to. ⌜ HeldTo s (now (list .entry)) (now (nodes .entry)) to ⌝ }
 {
     let n = s.n;
-    let layers = s.layers;
-    if n + layers < 6 {
-        return 0;
-    }
     let marked = marks(n, list);
     if pays(n, marked) {
         return met_from_few(s, list, marked, nodes);
-    }
-    if layers < 2 {
-        return 0;
     }
     let none = [0u16; 1];
     runs_met(s, list, marked, false, &none, nodes)

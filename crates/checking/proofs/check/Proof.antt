@@ -12,11 +12,8 @@ use Rattle.checking.proofs.check.Tie as tie
 accepted : (c : tie.After-enum-told) → let a = c .before .before .before .before .args in checkRefusal narrow (a .s) (a .nodes .now) ≡ 0
 accepted c = sym (c .before .before .judge-check .ensures) ∙ ap answerNumber (c .enum-told .given .1)
 
-rows-met-requires : tie.Need-rows-met-requires
-rows-met-requires c κs = accepted c
-
-first-unmet-requires : tie.Need-first-unmet-requires
-first-unmet-requires c κs = (accepted (c .before), c .rows-met .ensures)
+search-requires : tie.Need-search-requires
+search-requires c κs = accepted c
 
 returns : tie.Need-returns
 returns c =
@@ -24,9 +21,9 @@ returns c =
     checks-refused _ _ _ (ap answerNumber (sym (c .before .cause .given .1)) ∙ j .judge-check .ensures)
 
 returns-2 : tie.Need-returns-2
-returns-2 c = checks-looked _ _ _ (accepted (c .before .before)) (c .first-unmet .ensures)
+returns-2 c = checks-looked _ _ _ (accepted (c .before)) (c .search .ensures)
 
 pub check-spec : {M : Type 1} → statement M
 check-spec =
     tie.close
-    (tie.spec (λ c κs. search needs) (λ c. search needs) (λ c. search needs) rows-met-requires first-unmet-requires returns returns-2)
+    (tie.spec (λ c κs. search needs) (λ c. search needs) (λ c. search needs) search-requires returns returns-2)

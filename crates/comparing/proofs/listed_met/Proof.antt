@@ -4,48 +4,27 @@ use mathlib.Core.Bool.{true≢false}
 use native.Mathlib.Omega.{arith}
 use borrow.Author.Needs.{needs}
 use Rattle.shape.proofs.Accepted.{shape-accepted}
-use Rattle.comparing.proofs.Comparing.{held-none}
 use Rattle.comparing.proofs.listed_met.Statement.{statement}
 use Rattle.comparing.proofs.listed_met.Tie as tie
 
-add-if1 : tie.Need-add-if1
-add-if1 c = let w = shape-accepted _ (c .before .before .pre .0) in omega (arith, w .n-high, w .layers-high)
-
-returns : tie.Need-returns
-returns c = held-none _ _ _
-
 marks-requires : tie.Need-marks-requires
-marks-requires c κs = omega (arith, shape-accepted _ (c .before .before .before .pre .0) .n-high)
+marks-requires c κs = omega (arith, shape-accepted _ (c .before .before .pre .0) .n-high)
 
 pays-requires : tie.Need-pays-requires
-pays-requires c κs = shape-accepted _ (c .before .before .before .before .pre .0) .n-high
+pays-requires c κs = shape-accepted _ (c .before .before .before .pre .0) .n-high
 
 met-from-few-requires : tie.Need-met-from-few-requires
 met-from-few-requires c κs =
     let m = c .before .before in
-    let s = m .before .before .before .before in
-    (s .pre .0, s .pre .1, m .marks .ensures, c .before .pays .ensures (c .if2 .taken))
-
-returns-3 : tie.Need-returns-3
-returns-3 c = held-none _ _ _
+    let s = m .before .before .before in
+    (s .pre .0, s .pre .1, m .marks .ensures, c .before .pays .ensures (c .if1 .taken))
 
 runs-met-requires : tie.Need-runs-met-requires
 runs-met-requires c κs =
-    let m = c .before .before .before .before in
-    let s = m .before .before .before .before in
+    let m = c .before .before .before in
+    let s = m .before .before .before in
     (s .pre .0, s .pre .1, m .marks .ensures, λ h. absurd (true≢false (sym h)))
 
 pub listed-met-spec : {M : Type 1} → statement M
 listed-met-spec =
-    tie.close
-    (tie.spec
-    add-if1
-    returns
-    marks-requires
-    pays-requires
-    met-from-few-requires
-    (λ c. search needs)
-    returns-3
-    (λ c. search needs)
-    runs-met-requires
-    (λ c. search needs))
+    tie.close (tie.spec marks-requires pays-requires met-from-few-requires (λ c. search needs) (λ c. search needs) runs-met-requires (λ c. search needs))
