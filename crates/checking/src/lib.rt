@@ -3,8 +3,8 @@ use code::gathered;
 use code::points_at;
 use column::parity;
 use comparing::listed_met;
-use comparing::rows_pay;
 use filling::NODES;
+use patterns::pays;
 use shape::Answer;
 use shape::MODULUS;
 use shape::Refusal;
@@ -13,8 +13,10 @@ use shape::shape_bad;
 use shape::size;
 use shape::symbol_bad;
 use shape::two_to;
+use tables::marks;
 ghost use mathlib.Core.Path.{_≡_};
-ghost use Rattle.shape.specs.Refusals.{answerNumber};
+ghost use mathlib.Core.Bool.{false};
+ghost use Rattle.shape.specs.Refusals.{shapeBad, answerNumber};
 ghost use Rattle.code.specs.Code.{narrow};
 ghost use Rattle.code.specs.Archive.{firstUnmet};
 ghost use Rattle.code.specs.Refusals.{checkRefusal};
@@ -81,6 +83,21 @@ fn rows_met(s: Shape, nodes: &[u16]) -> usize
     let k = s.k;
     let all = NODES;
     listed_met(s, &all[..k], nodes)
+}
+
+// Whether multipliers pay: with places enough, picked from few or for two layers or more. Whatever it says, the check finds the same.
+fn rows_pay(s: Shape, list: &[usize]) -> bool
+    requires { ⌜ shapeBad s ≡ false ⌝ }
+{
+    let n = s.n;
+    let layers = s.layers;
+    if n + layers < 6 {
+        return false;
+    }
+    if 1 < layers {
+        return true;
+    }
+    pays(n, marks(n, list))
 }
 
 // The first equation whose sum is not 0, looked for by rows first where that pays.

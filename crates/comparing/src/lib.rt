@@ -144,21 +144,6 @@ fn met_from_few(s: Shape, list: &[usize], marked: [bool; FLAGS], nodes: &[u16]) 
     runs_met(s, list, marked, true, &source, nodes)
 }
 
-// Whether multipliers pay: with places enough, picked from few or for two layers or more.
-pub fn rows_pay(s: Shape, list: &[usize]) -> bool
-    requires { ⌜ shapeBad s ≡ false ⌝ }
-{
-    let n = s.n;
-    let layers = s.layers;
-    if n + layers < 6 {
-        return false;
-    }
-    if 1 < layers {
-        return true;
-    }
-    pays(n, marks(n, list))
-}
-
 // How many a, a run after the other, have at every layer what would be filled in, by multipliers picked from few where that pays.
 pub fn listed_met(s: Shape, list: &[usize], nodes: &[u16]) -> usize
     requires { ⌜ (shapeBad s ≡ false) × Fillable (s .n) (size s) (now list) (now nodes) ⌝ }

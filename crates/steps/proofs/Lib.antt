@@ -3,4 +3,5 @@ pub mod Pieces
 pub mod Storing
 pub mod Turned
 pub mod Providers
+pub mod Beginning
 pub mod Recovery

@@ -8,7 +8,6 @@ use native.Mathlib.Decide.{ℕ-discrete}
 use native.Mathlib.Nat.{mod-lt, div-add-mod, div-add-mod', div-lt-iff-lt-mul}
 use native.Mathlib.Omega.{arith}
 use borrow.Author.Tests.{eqb-true, eqb-false}
-use lib.Bits.{bitXor, xor-zero-l}
 use lib.Dec.{eqb}
 use lib.ListN.{length, getD}
 use lib.Pow.{pow-pos}
@@ -23,13 +22,13 @@ use Rattle.rows.specs.Rows.{Low}
 use Rattle.code.specs.Code.{Code}
 use Rattle.classes.specs.Classes.{batch, node, classOf, rankClass, partner, turningRank, rankAt, placeOf, Sum, sumAt, sumPlace}
 use Rattle.classes.specs.Steps.{own, sent, across, origin, layer0, layer, symbolOf, contentsAt, contents}
-use Rattle.steps.specs.Storing.{sumSymbol, Paired, OwnLow, LowAt, sentBy, Crossed, Begun}
+use Rattle.steps.specs.Storing.{sumSymbol, Paired, LowAt, sentBy, Crossed, Begun}
 use Rattle.classes.proofs.Sizes.{batch-pos}
 use Rattle.classes.proofs.Dead.{Dead, flip-node-lt}
-use Rattle.classes.proofs.Turns.{class-turned}
-use Rattle.classes.proofs.Ranks.{Rank, partner-lt, rankClass-le, turning-rank, rank-zero}
+use Rattle.classes.proofs.Ranks.{partner-lt, rankClass-le, turning-rank, rank-zero}
 use Rattle.steps.proofs.Providers.{provider, provider-zero, provider-more, Origin, origin-or-not, turned-before, turning-own, provider-lt, Target, target, source}
 use Rattle.steps.proofs.Storing.{place-own, sum-first, sum-other, turning}
+use Rattle.steps.proofs.Beginning.{turner, turned-place, turned-sum}
 
 -- what stands where a rank's sums were crossed
 crossed-each : (c : Code) (s : Shape) (dead : List ℕ) (u which : ℕ) (sums : ℕ → ℕ) (S T : List ℕ) → Crossed c s dead u which sums S T → (b a : ℕ) → Sum s dead u b a
@@ -45,35 +44,6 @@ pub record Known (c : Code) (s : Shape) (dead : List ℕ) (v : ℕ) (pairs recei
   pub long : length S ≡ size s
   pub cells : (w b a : ℕ) → w < batch dead → b < s .layers / batch dead → a < 2 ^ s .n → Settled dead v u w a
       → getD S (placeOf s dead w b a) 0 ≡ symbolOf c s dead v pairs received w b a
-
--- ---- the rank that turns the class of rank v: the other places of its sums are first places of rank v's
-
-module _ {s : Shape} {dead : List ℕ} (D : Dead s dead) (v : ℕ) (z : rankClass dead v ≢ 0) where
-  abbrev t : ℕ
-  t = turningRank dead (rankClass dead v)
-
-  turner : Rank dead (turningRank dead (rankClass dead v)) 0 0
-  turner = turning-rank dead (rankClass dead v) (omega arith) (rankClass-le dead v)
-
-  turned-place : (b a : ℕ) → sumPlace s dead t 1 b a ≡ placeOf s dead 0 b (flip (node dead t) a)
-  turned-place b a = sum-other s dead t b a ∙ ap (λ y. placeOf s dead y b (flip (node dead t) a)) (turner .partnered)
-
-  turned-sum : (b a : ℕ) → Sum s dead t b a → Sum s dead v b (flip (node dead t) a)
-  turned-sum b a Q = record {
-    batched = Q .batched;
-    below = flip-node-lt D t a (turner .below) (Q .below);
-    inside =
-        class-turned D (rankClass dead v) a (omega arith) (rankClass-le dead v) ∙ ap (λ x. bitXor x (rankClass dead v)) (Q .inside ∙ turner .class)
-        ∙ xor-zero-l (rankClass dead v);
-  }
-
-  pub begin-low : (q : ℕ) (S : List ℕ) → OwnLow q s dead v S → LowAt q s dead (turningRank dead (rankClass dead v)) 1 S
-  unfolding sumSymbol
-  begin-low q S O = record {
-    each = λ b a Q.
-        let a′ = flip (node dead t) a in
-        rw (ap (λ x. getD S x 0) (turned-place b a ∙ sym (sum-first s dead v b a′)) ∙ O .paired .one b a′ (turned-sum b a Q)) (O .low .at (sumAt s dead v b a′ * 2 + 0));
-  }
 
 either-low : (q : ℕ) (test : Bool) (x y : ℕ) → x < q → y < q → cond test x y < q
 either-low q true x y h k = h

@@ -6,7 +6,7 @@ use borrow.Author.Needs.{needs}
 use Rattle.classes.specs.Classes.{rankClass, turningRank}
 use Rattle.classes.proofs.Layouts.{ready-dead, bounded}
 use Rattle.classes.proofs.Ranks.{Rank, turning-rank, rankClass-le}
-use Rattle.steps.proofs.Recovery.{begin-low}
+use Rattle.steps.proofs.Beginning.{begin-low}
 use Rattle.steps.proofs.begin.Statement.{statement}
 use Rattle.steps.proofs.begin.Tie as tie
 

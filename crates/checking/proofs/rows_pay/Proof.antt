@@ -1,9 +1,9 @@
--- `comparing::rows_pay` is safe. Assumes nothing.
+-- `checking::rows_pay` is safe. Assumes nothing.
 use native.Mathlib.Omega.{arith}
 use borrow.Author.Needs.{needs}
 use Rattle.shape.proofs.Accepted.{shape-accepted}
-use Rattle.comparing.proofs.rows_pay.Statement.{statement}
-use Rattle.comparing.proofs.rows_pay.Tie as tie
+use Rattle.checking.proofs.rows_pay.Statement.{statement}
+use Rattle.checking.proofs.rows_pay.Tie as tie
 
 add-if1 : tie.Need-add-if1
 add-if1 c = let w = shape-accepted _ (c .before .pre) in omega (arith, w .n-high, w .layers-high)
