@@ -70,18 +70,6 @@ module _ (place value : ℕ → ℕ) where
       ap (λ z. set z (place n) (value n)) (puts-ext place′ value′ n old (λ i k. h i (omega arith))) ∙ ap (λ z. set (puts place′ value′ n old) z (value n)) (h n l .0)
       ∙ ap (set (puts place′ value′ n old) (place′ n)) (h n l .1)
 
--- a row that was written over
-pub puts-row : (value : ℕ → ℕ) (n : ℕ) (old : List ℕ) → n ≤ length old → (i : ℕ) → i < n → getD (puts (λ x. x) value n old) i 0 ≡ value i
-unfolding puts
-puts-row value zero old l i h = absurd (omega arith)
-puts-row value (suc n) old l i h = go (upto i n (omega arith)) (λ k. puts-row value n old (omega arith) i k)
-  where
-    go : (i < n) ⊎ (i ≡ n) → (i < n → getD (puts (λ x. x) value n old) i 0 ≡ value i) → getD (set (puts (λ x. x) value n old) n (value n)) i 0 ≡ value i
-    go (inl k) before = getD-set-other (puts (λ x. x) value n old) n i (value n) 0 (λ z. omega arith) ∙ before k
-    go (inr k) before =
-        ap (λ z. getD (set (puts (λ x. x) value n old) n (value n)) z 0) k ∙ getD-set-same (puts (λ x. x) value n old) n (value n) 0 (rw (puts-length (λ x. x) value n old) (omega arith))
-        ∙ ap value (sym k)
-
 -- Every a is a member, and member x is x.
 module _ (n x : ℕ) (h : x < n) where
   row-at : getD (range 0 n) x 0 ≡ x
@@ -123,11 +111,11 @@ row-part q n x w symbols o L h =
     (λ e l. let k : e < w = omega (arith, length-take w (drop x symbols)) in rw (getD-take w (drop x symbols) e 0 k, getD-drop x symbols e 0) (row-low n (x + e) (omega arith) L))
 
 -- a run from x on, by the differences of the parts of both rows
-pub row-crossed : (c : Code) (n x turn w : ℕ) (sums symbols left old now : List ℕ) → x + w ≤ n → w ≤ length old
-    → left ≡ puts (λ i. i) (λ i. minus (c .modulus) (getD (take (x + w - x) (drop x sums)) i 0) (getD (take (x + w - x) (drop x symbols)) i 0)) w old
-    → now ≡ puts (λ i. bitXor (x + i) turn) (element left) (length left) symbols → length left ≡ w → now ≡ crossedFrom c (range 0 n) 0 turn sums symbols x w
+pub row-crossed : (c : Code) (n x turn w : ℕ) (sums symbols old left now : List ℕ) → x + w ≤ n
+    → Stored w (λ i. i) (λ i. minus (c .modulus) (getD (take (x + w - x) (drop x sums)) i 0) (getD (take (x + w - x) (drop x symbols)) i 0)) old left → length left ≡ w
+    → now ≡ puts (λ i. bitXor (x + i) turn) (element left) (length left) symbols → now ≡ crossedFrom c (range 0 n) 0 turn sums symbols x w
 unfolding crossedFrom
-row-crossed c n x turn w sums symbols left old now h l e f g =
+row-crossed c n x turn w sums symbols old left now h D g f =
     f ∙ ap (λ z. puts (λ i. bitXor (x + i) turn) (λ i. getD left i 0) z symbols) g
     ∙ puts-ext _ _ (λ i. turned (range 0 n) turn (x + i)) (λ i. leftIn c (range 0 n) 0 sums symbols (x + i)) w symbols (λ i k. (sym (row-turned n (x + i) (omega arith) turn), value i k))
   where
@@ -136,8 +124,8 @@ row-crossed c n x turn w sums symbols left old now h l e f g =
 
     value : (i : ℕ) → i < w → getD left i 0 ≡ leftIn c (range 0 n) 0 sums symbols (x + i)
     value i k =
-        ap (λ z. getD z i 0) e ∙ puts-row _ w old l i k ∙ ap (λ z. minus (c .modulus) z (getD (take (x + w - x) (drop x symbols)) i 0)) (part sums i k)
-        ∙ ap (minus (c .modulus) (getD sums (x + i) 0)) (part symbols i k) ∙ row-left n (x + i) (omega arith) c sums symbols
+        D .each i k ∙ ap (λ z. minus (c .modulus) z (getD (take (x + w - x) (drop x symbols)) i 0)) (part sums i k) ∙ ap (minus (c .modulus) (getD sums (x + i) 0)) (part symbols i k)
+        ∙ row-left n (x + i) (omega arith) c sums symbols
 
 module _ (c : Code) (members : List ℕ) (near far : ℕ) (sums : List ℕ) where
   -- Sums are stored from n on, where those before n are.

@@ -104,7 +104,7 @@ fn difference(sum: u16, symbol: u16) -> u16
 // What is left of a row of sums where a row of symbols is taken away.
 fn differences(sums: &[u16], symbols: &[u16], left: &mut [u16])
     requires { ⌜ (length (now sums) ≡ length (now left)) × (length (now symbols) ≡ length (now left)) × (Low (narrow .modulus) (now sums)) × (Low (narrow .modulus) (now symbols)) ⌝ }
-    ensures { λ _. ⌜ now (left .exit) ≡ puts (λ x. x) (λ x. minus (narrow .modulus) (getD (now (sums .entry)) x 0) (getD (now (symbols .entry)) x 0)) (length (now (left .entry))) (now (left .entry)) ⌝ }
+    ensures { λ _. ⌜ Stored (length (now (left .entry))) (λ x. x) (λ x. minus (narrow .modulus) (getD (now (sums .entry)) x 0) (getD (now (symbols .entry)) x 0)) (now (left .entry)) (now (left .exit)) ⌝ }
 {
     for x in 0..left.len() {
         left[x] = difference(sums[x], symbols[x]);

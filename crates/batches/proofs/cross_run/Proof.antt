@@ -46,7 +46,7 @@ returns : tie.Need-returns
 returns c =
     let st = c .before .before .before .before .before .before .before .before .before .before .before .before .before .before .before in
     let d = c .before .before .before .before .before .before .before .differences in
-    row-crossed narrow _ (st .args .x) _ _ _ _ _ (st .args .left .now) _ (st .pre .0 .1) (omega arith) (d .ensures) (c .before .before .store-row .ensures) (d .kept .1 .1 .0)
+    row-crossed narrow _ (st .args .x) _ _ _ _ (st .args .left .now) _ _ (st .pre .0 .1) (d .ensures) (d .kept .1 .1 .0) (c .before .before .store-row .ensures)
 
 pub cross-run-spec : {M : Type 1} → statement M
 cross-run-spec =

@@ -1,28 +1,25 @@
 -- `batches::differences` meets its contract. Assumes nothing.
-use mathlib.Core.Path.{_≡_, refl, ap, _∙_}
-use Prim.Native.Nat.{suc, _+_, _-_, _≤_}
+use mathlib.Core.Path.{_≡_, refl}
+use Prim.Native.Nat.{_-_, _≤_}
 use native.Mathlib.Omega.{arith}
 use borrow.Author.Needs.{needs}
 use lib.ListN.{length, getD}
 use Rattle.field.specs.Residues.{minus}
 use Rattle.code.specs.Code.{narrow}
-use Rattle.batches.specs.Batches.{puts}
-use Rattle.batches.proofs.Batches.{puts-none, puts-next, puts-length}
+use Rattle.batches.specs.Batches.{Stored}
+use Rattle.batches.proofs.Batches.{stored-none, stored-more}
 use Rattle.batches.proofs.differences.Statement.{statement}
 use Rattle.batches.proofs.differences.Tie as tie
 
 abbrev Inv-loop : tie.InvT-loop
 Inv-loop sums symbols left₀ x₀ x-end left x =
-    (x ≤ x-end) × (x-end ≡ length left₀) × (left ≡ puts (λ i. i) (λ i. minus (narrow .modulus) (getD sums i 0) (getD symbols i 0)) x left₀)
+    (x ≤ x-end) × (x-end ≡ length left₀) × Stored x (λ i. i) (λ i. minus (narrow .modulus) (getD sums i 0) (getD symbols i 0)) left₀ left
 
 abbrev μ-loop : tie.MeasureT-loop
 μ-loop sums symbols left₀ x₀ x-end left x = x-end - x
 
 loop-holds : tie.Need-loop-holds Inv-loop μ-loop
-loop-holds c = (search needs, refl, puts-none _ _ _)
-
-long : (c : tie.At-loop Inv-loop μ-loop) → length (c .loop .left) ≡ length (c .before .before .before .before .args .left .now)
-long c = ap length (c .loop .inv .2) ∙ puts-length _ _ _ _
+loop-holds c = (search needs, refl, stored-none _ _ _)
 
 mul-difference : tie.Need-mul-difference Inv-loop μ-loop
 mul-difference c = omega (arith, c .before .before .before .before .before .pre .0)
@@ -40,16 +37,18 @@ difference-requires : tie.Need-difference-requires Inv-loop μ-loop
 difference-requires c κs = let p = c .before .before .before .before .before .before .before .pre in (p .2 .at _, p .3 .at _)
 
 mul-left : tie.Need-mul-left Inv-loop μ-loop
-mul-left c = omega (arith, long (c .before .before .before .before))
+mul-left c = omega (arith, c .before .before .before .before .loop .inv .2 .long)
 
 slice-write-left : tie.Need-slice-write-left Inv-loop μ-loop
-slice-write-left c = omega (arith, long (c .before .before .before .before))
+slice-write-left c = omega (arith, c .before .before .before .before .loop .inv .2 .long)
 
 loop-again : tie.Need-loop-again Inv-loop μ-loop
-loop-again c = let l = c .before .before .before .before .loop in let e : l .x + 1 ≡ suc (l .x) = omega arith in (search needs, refl, rw e (puts-next _ _ (l .x) _ _ _ _ (l .inv .2) refl (c .difference .ensures)))
+loop-again c =
+    let l = c .before .before .before .before .loop in
+    (search needs, refl, stored-more _ _ _ (l .x) _ _ _ (l .inv .2) refl (omega arith) (λ x h z. omega arith) (c .difference .ensures))
 
 same-length : tie.Need-same-length Inv-loop μ-loop
-same-length c = long (c .before)
+same-length c = c .before .loop .inv .2 .long
 
 returns : tie.Need-returns Inv-loop μ-loop
 returns c = let l = c .before .loop in let e : l .x ≡ length (c .before .before .before .before .before .args .left .now) = omega arith in rw (← e) (l .inv .2)
