@@ -163,7 +163,6 @@ fn bench_code(table: &mut Table, written: &Written) {
     let list: Vec<usize> = (plain.n - plain.k..plain.n).collect();
     let symbols = &nodes[all - capacity..];
     let mut out = vec![0; all];
-    let mut bytes = vec![0; capacity];
     table.line(
         written.name("write"),
         all,
@@ -185,13 +184,19 @@ fn bench_code(table: &mut Table, written: &Written) {
         || shape.restore(&list, black_box(symbols), &mut out).unwrap(),
         || naive::restore(*plain, &list, black_box(symbols), all).unwrap(),
     );
-    table.line(
-        written.name("open"),
-        capacity,
-        capacity,
-        || shape.open(&list, black_box(symbols), capacity, &mut bytes).unwrap(),
-        || naive::open(*plain, &list, black_box(symbols), capacity, capacity).unwrap(),
-    );
+    // And the data nodes themselves, of which nothing is worked out.
+    let first: Vec<usize> = (0..plain.k).collect();
+    for (call, list, symbols) in [("open", &list, symbols), ("open data nodes", &first, &nodes[..capacity])] {
+        let mut bytes = vec![0; capacity];
+        table.line(
+            written.name(call),
+            capacity,
+            capacity,
+            || shape.open(list, black_box(symbols), capacity, &mut bytes).unwrap(),
+            || naive::open(*plain, list, black_box(symbols), capacity, capacity).unwrap(),
+        );
+        assert_eq!(&bytes, transcript);
+    }
 }
 
 /// The dead are every other node from 1 on, the helpers the first others.

@@ -187,6 +187,28 @@ fn open() {
     });
 }
 
+/// Every rising list of k nodes of n, where n is at most 8: with all data nodes among them, some, or none.
+fn every_list() -> Vec<(usize, Vec<usize>)> {
+    let all = (3..=8).flat_map(|n| (0..1usize << n).map(move |set| (n, set)));
+    let lists = all.map(|(n, set)| (n, (0..n).filter(|node| set >> node & 1 == 1).collect::<Vec<usize>>()));
+    lists.filter(|(n, list)| (1..=n - 2).contains(&list.len())).collect()
+}
+
+#[test]
+fn open_from_every_list() {
+    let lists = every_list();
+    let mut each = lists.iter().cycle();
+    try_cases(3 * lists.len(), &[0, 7], |random| {
+        let (n, list) = each.next().unwrap();
+        let shape = Shape { n: *n, k: list.len(), layers: random.between(1, 3) };
+        let length = random.between(0, shape.capacity());
+        let data = random_data(random, shape, length);
+        let first: Vec<usize> = (0..shape.k).collect();
+        let nodes = naive::restore(shape, &first, &data, shape.n * shape.symbols()).unwrap();
+        compare::open(random, shape, list, &symbols_of(shape, &nodes, list), length, length)
+    });
+}
+
 /// An accepted choice, but perhaps for the layers.
 fn random_lists(random: &mut Random) -> Lists {
     let mut shape = random_shape(random);

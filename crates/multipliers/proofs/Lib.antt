@@ -1,4 +1,5 @@
 -- Laws of multipliers, lowest first.
 pub mod Totals
+pub mod Units
 pub mod Multipliers
 pub mod Opposites

@@ -26,6 +26,7 @@ use Rattle.column.specs.Column.{parity, completed, Points, Completion}
 use Rattle.column.proofs.Column.{completed-is}
 use Rattle.multipliers.specs.Multipliers.{leftOut, differences, multiplier, unit}
 use Rattle.multipliers.proofs.Totals.{total, total-ext, total-less, total-zero, total-is}
+use Rattle.multipliers.proofs.Units.{unit-small, unit-picks}
 
 -- ---- the entries left out
 
@@ -347,26 +348,15 @@ module _ (q : ℕ) (prime : Prime q) (ps : List ℕ) (points : Points q ps) (lis
   unfolding multiplier
   multiplier-small j = mod-lt _ o
 
-  unit-at : (j : ℕ) (f : ℕ → ℕ) → j < length list → sum (length list) (λ e. f e * unit j e) ≡ f j
-  unfolding unit
-  unit-at j f h =
-      sum-only (length list) j _ h (λ e _ d. ap (λ b. f e * cond b 1 0) (ne-eqb e j d) ∙ omega arith)
-      ∙ ap (λ b. f j * cond b 1 0) (eq-eqb j j refl) ∙ omega arith
-
-  unit-small : (j e : ℕ) → unit j e < q
-  unfolding unit
-  unit-small j e = go (eqb e j)
-    where
-      go : (b : Bool) → cond b 1 0 < q
-      go true = prime .big
-      go false = o
-
   pub multiplier-only : (f : ℕ → ℕ)
       → ((values : ℕ → ℕ) → ((j : ℕ) → j < length list → values j < q) → getD (completed q ps list values) i 0 ≡ sum (length list) (λ j. f j * values j) % q)
       → (j : ℕ) → j < length list → f j % q ≡ multiplier q ps list i j
   multiplier-only f all j h =
-      ap (λ k. k % q) (sym (unit-at j f h)) ∙ sym (all (unit j) (λ e _. unit-small j e)) ∙ missing-sum (unit j) (λ e _. unit-small j e)
-      ∙ ap (λ k. k % q) (unit-at j (multiplier q ps list i) h) ∙ mod-eq-of-lt (multiplier-small j)
+      ap (λ k. k % q) (sym (unit-picks (length list) j f h)) ∙ sym (all (unit j) small) ∙ missing-sum (unit j) small
+      ∙ ap (λ k. k % q) (unit-picks (length list) j (multiplier q ps list i) h) ∙ mod-eq-of-lt (multiplier-small j)
+    where
+      small : (e : ℕ) → e < length list → unit j e < q
+      small e _ = unit-small q j e (prime .big)
 
 -- an inverse of x is the inverse of x
 pub inverse-only : (q : ℕ) (prime : Prime q) (x s : ℕ) → s < q → (x * s) % q ≡ 1 → s ≡ inverse q x

@@ -1,3 +1,6 @@
--- Laws of opening a place at a time, lowest first.
-pub mod Completing
-pub mod Restored
+-- Laws of opening by multipliers, lowest first.
+pub mod Opening
+pub mod Fitting
+pub mod Walking
+pub mod Places
+pub mod Judged

@@ -1,2 +1,3 @@
--- What is promised of the functions inside opening.
+-- Opening by multipliers.
+pub mod Opening
 pub mod Steps

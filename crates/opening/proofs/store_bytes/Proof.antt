@@ -1,68 +1,60 @@
--- `opening::store_bytes` meets its contract: one row after the other, as far as the transcript goes. Assumes nothing.
-use mathlib.Core.Path.{_≡_, refl}
-use Prim.Native.Nat.{_+_, _-_, _*_, _≤_, _<_}
-use native.Mathlib.Nat.{mul-le-mul}
+-- `opening::store_bytes` meets its contract. Assumes nothing.
+use Rattle.rows.proofs.Rows.{stored-none, stored-more}
+use Rattle.rows.specs.Rows.{Stored}
+use Rattle.lists.specs.Lists.{element}
+use lib.ListN.{length, getD}
 use native.Mathlib.Omega.{arith}
+use Prim.Native.Nat.{ℕ, _+_, _-_, _≤_, _<_}
+use mathlib.Core.Path.{_≡_, refl}
 use borrow.Author.Needs.{needs}
-use lib.Arith.{digits-lt}
-use lib.ListN.{length}
-use Rattle.lists.specs.Rows.{Placed}
-use Rattle.lists.proofs.Rows.{placed-none, placed-more, placed-skip}
 use Rattle.opening.proofs.store_bytes.Statement.{statement}
 use Rattle.opening.proofs.store_bytes.Tie as tie
+use Rattle.opening.proofs.store_bytes.Reads as reads
+use Rattle.opening.proofs.store_bytes.Lts as lts
 
 abbrev Inv-loop : tie.InvT-loop
-Inv-loop k size place transcript₀ column j₀ transcript j = (j ≤ k) × Placed j size place column transcript₀ transcript
+Inv-loop row at transcript₀ t₀ t-end transcript t = (t ≤ t-end) × (t-end ≡ length row) × Stored at t (element row) transcript₀ transcript
 
 abbrev μ-loop : tie.MeasureT-loop
-μ-loop k size place transcript₀ column j₀ transcript j = k - j
+μ-loop row at transcript₀ t₀ t-end transcript t = t-end - t
 
 loop-holds : tie.Need-loop-holds Inv-loop μ-loop
-loop-holds c = (search needs, placed-none _ _ _ _)
+loop-holds c = (search needs, refl, stored-none _ _ _)
 
--- the number of a data symbol is small
-few : (c : tie.In-loop Inv-loop μ-loop) →
-    let a = c .before .before .args in
-    c .before .loop .j * a .size + a .place < 12 * (15 * 4096)
-few c =
-    let s = c .before .before in
-    omega (arith, digits-lt (c .loop-test .taken) (s .pre .within), mul-le-mul (s .pre .few) (s .pre .short))
+mul-transcript : tie.Need-mul-transcript Inv-loop μ-loop
+mul-transcript c = search needs
 
-mul-b : tie.Need-mul-b Inv-loop μ-loop
-mul-b c = omega (arith, few c)
+shared-slice-read-transcript : tie.Need-shared-slice-read-transcript Inv-loop μ-loop
+shared-slice-read-transcript c = search needs
 
-add-b : tie.Need-add-b Inv-loop μ-loop
-add-b c = omega (arith, few c)
+cast-transcript : tie.Need-cast-transcript Inv-loop μ-loop
+cast-transcript c = omega (arith, c .before .before .before .pre (c .before .before .loop .t) (omega (arith, c .before .before .loop .inv .1)) .1)
+
+add-transcript : tie.Need-add-transcript Inv-loop μ-loop
+add-transcript c = omega (arith, c .before .before .before .pre (c .before .before .loop .t) (omega (arith, c .before .before .loop .inv .1)) .0)
+
+slice-write-transcript : tie.Need-slice-write-transcript Inv-loop μ-loop
+slice-write-transcript c = omega (arith, c .before .before .loop .inv .2 .long, c .before .before .before .pre (c .before .before .loop .t) (omega (arith, c .before .before .loop .inv .1)) .0)
+
+add-t : tie.Need-add-t Inv-loop μ-loop
+add-t c = search needs
+
+loop-less : tie.Need-loop-less Inv-loop μ-loop
+loop-less c = search needs
 
 loop-again : tie.Need-loop-again Inv-loop μ-loop
 loop-again c =
     let l = c .before .before .loop in
-    let s = c .before .before .before in
-    (search needs, placed-skip _ _ _ _ _ _ (s .pre .within) (l .inv .1) (rw (l .inv .1 .long) at (c .if1 .taken)))
-
--- the byte lies within the transcript
-within : (c : tie.Else1 Inv-loop μ-loop) →
-    let a = c .before .before .before .args in
-    c .before .before .loop .j * a .size + a .place < length (a .transcript .now)
-within c = rw (c .before .before .loop .inv .1 .long) at (c .if1 .left)
-
-cast-transcript : tie.Need-cast-transcript Inv-loop μ-loop
-cast-transcript c = omega (arith, c .before .before .before .pre .small (c .before .before .loop .j) (c .before .loop-test .taken) (within c))
-
-loop-again-2 : tie.Need-loop-again-2 Inv-loop μ-loop
-loop-again-2 c =
-    let l = c .before .before .loop in
-    let s = c .before .before .before in
-    (search needs, placed-more _ _ _ _ _ _ (s .pre .within) (l .inv .1) _ (within c) refl)
+    (search needs, refl, stored-more _ (l .t) _ _ _ _ (l .inv .2) (c .before .before .before .pre (l .t) (omega (arith, l .inv .1)) .0) refl)
 
 same-length : tie.Need-same-length Inv-loop μ-loop
-same-length c = c .before .loop .inv .1 .long
+same-length c = c .before .loop .inv .2 .long
 
 returns : tie.Need-returns Inv-loop μ-loop
 returns c =
     let l = c .before .loop in
-    let e : l .j ≡ c .before .before .args .k = omega arith in
-    rw (← e) (l .inv .1)
+    let e : l .t ≡ length (c .before .before .args .row .now) = omega (arith, l .inv .1) in
+    rw (← e) (l .inv .2)
 
 pub store-bytes-spec : {M : Type 1} → statement M
 store-bytes-spec =
@@ -71,17 +63,13 @@ store-bytes-spec =
     Inv-loop
     μ-loop
     loop-holds
-    mul-b
-    add-b
-    (λ c. search needs)
-    (λ c. search needs)
-    loop-again
-    (λ c. search needs)
-    (λ c. search needs)
+    mul-transcript
+    shared-slice-read-transcript
     cast-transcript
-    (λ c. search needs)
-    (λ c. search needs)
-    (λ c. search needs)
-    loop-again-2
+    add-transcript
+    slice-write-transcript
+    add-t
+    loop-less
+    loop-again
     same-length
     returns)

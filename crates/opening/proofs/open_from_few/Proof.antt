@@ -1,0 +1,47 @@
+-- `opening::open_from_few` meets its contract. Assumes nothing.
+use Rattle.opening.proofs.Judged.{readable}
+use Rattle.tables.specs.Tables.{tableSize}
+use Rattle.rows.proofs.Rows.{low-replicate}
+use Rattle.shape.proofs.Accepted.{shape-accepted}
+use native.Mathlib.Omega.{arith}
+use mathlib.Core.Path.{refl, sym}
+use borrow.Author.Needs.{needs}
+use Rattle.opening.proofs.open_from_few.Statement.{statement}
+use Rattle.opening.proofs.open_from_few.Tie as tie
+use Rattle.opening.proofs.open_from_few.Reads as reads
+use Rattle.opening.proofs.open_from_few.Lts as lts
+use Rattle.opening.proofs.judge_and_store.Reads as judge-and-store-reads
+use Rattle.patterns.proofs.represent.Reads as represent-reads
+
+slice-aggregate-represent : tie.Need-slice-aggregate-represent
+slice-aggregate-represent c = refl
+
+represent-requires : tie.Need-represent-requires
+represent-requires c κs =
+    let p = c .before .before .before .before .pre in
+    let r = readable _ _ _ _ _ (p .0) in
+    let w = shape-accepted _ (r .shape) in
+    (w .n-high, omega (arith, w .k-high), p .2, r .up, p .1, refl, low-replicate _ tableSize 0 (omega arith))
+
+slice-aggregate-judge-and-store : tie.Need-slice-aggregate-judge-and-store
+slice-aggregate-judge-and-store c = sym (c .before .before .represent .ensures .held .long)
+
+judge-and-store-requires : tie.Need-judge-and-store-requires
+judge-and-store-requires c κs = (c .before .before .before .before .before .before .before .before .pre .0, c .before .before .before .before .before .before .before .before .pre .1, λ _. c .before .before .before .represent .ensures)
+
+same-length : tie.Need-same-length
+same-length c = c .before .before .judge-and-store .ensures .long
+
+returns : tie.Need-returns
+returns c = c .before .before .judge-and-store .ensures
+
+pub open-from-few-spec : {M : Type 1} → statement M
+open-from-few-spec =
+    tie.close
+    (tie.spec
+    slice-aggregate-represent
+    represent-requires
+    slice-aggregate-judge-and-store
+    judge-and-store-requires
+    same-length
+    returns)

@@ -1,0 +1,62 @@
+-- `opening::open_row` meets its contract. Assumes nothing.
+use Rattle.code.proofs.Opening.{fits-byte}
+use lib.Seq.{length-take-le, getD-take}
+use Prim.Native.Nat.{_<_}
+use native.Mathlib.Omega.{arith}
+use Rattle.opening.proofs.Walking.{row-misfit, row-walked}
+use borrow.Author.Tests.{not-true, not-false}
+use mathlib.Core.Path.{sym}
+use borrow.Author.Needs.{needs}
+use Rattle.opening.proofs.open_row.Statement.{statement}
+use Rattle.opening.proofs.open_row.Tie as tie
+use Rattle.opening.proofs.open_row.Reads as reads
+use Rattle.opening.proofs.open_row.Lts as lts
+use Rattle.opening.proofs.before_end.Reads as before-end-reads
+use Rattle.opening.proofs.row_fits.Reads as row-fits-reads
+use Rattle.opening.proofs.store_bytes.Reads as store-bytes-reads
+
+row-fits-requires : tie.Need-row-fits-requires
+row-fits-requires c κs = search needs
+
+returns : tie.Need-returns
+returns c =
+    let a = c .before .before .before .before .args in
+    λ D same. row-misfit D (a .len) (a .room) (a .at) (a .row .now) (a .transcript .now) same (c .before .row-fits .ensures .not-each (not-true _ (c .if1 .taken)))
+
+before-end-requires : tie.Need-before-end-requires
+before-end-requires c κs = search needs
+
+slice-aggregate-store-bytes : tie.Need-slice-aggregate-store-bytes
+slice-aggregate-store-bytes c = sym (length-take-le _ _ (c .before .before-end .ensures .few))
+
+store-bytes-requires : tie.Need-store-bytes-requires
+store-bytes-requires c κs =
+    let s = c .before .before .before .before .before .before .before in
+    let v = c .before .before .before-end .ensures in
+    let each = c .before .before .before .before .row-fits .ensures .each (not-false _ (c .before .before .before .if1 .left)) in
+    λ t h.
+    let l : t < c .before .before .before-end .result = rw (length-take-le _ _ (v .few)) at h in
+    let m = v .before t l in
+    (omega (arith, s .pre .1), rw (getD-take _ (s .args .row .now) t 0 l) (fits-byte _ _ _ (omega (arith, s .pre .0)) (each t (omega (arith, v .few)))))
+
+same-length : tie.Need-same-length
+same-length c = c .before .before .store-bytes .ensures .long
+
+returns-2 : tie.Need-returns-2
+returns-2 c =
+    let a = c .before .before .before .before .before .before .before .before .before .before .args in
+    let v = c .before .before .before .before .before .before-end .ensures in
+    let put = rw (length-take-le _ _ (v .few)) at (c .before .before .store-bytes .ensures) in
+    λ D same. row-walked D (a .len) (a .room) (a .at) (a .row .now) (a .transcript .now) same _ _ (c .before .before .before .before .before .before .before .row-fits .ensures .each (not-false _ (c .before .before .before .before .before .before .if1 .left))) v put
+
+pub open-row-spec : {M : Type 1} → statement M
+open-row-spec =
+    tie.close
+    (tie.spec
+    row-fits-requires
+    returns
+    before-end-requires
+    slice-aggregate-store-bytes
+    store-bytes-requires
+    same-length
+    returns-2)
