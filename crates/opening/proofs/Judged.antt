@@ -3,10 +3,11 @@ use mathlib.Core.Path.{_≡_, refl, sym, _∙_, subst}
 use mathlib.Core.Logic.{_⊎_, inl, inr}
 use mathlib.Core.Bool.{Bool, true, false}
 use mathlib.Core.List.{List}
-use Prim.Native.Nat.{ℕ, _*_, _<_}
+use Prim.Native.Nat.{ℕ, _+_, _*_, _<_}
 use native.Mathlib.Omega.{arith}
-use lib.ListN.{length, getD}
-use lib.Seq.{ext-getD}
+use lib.ListN.{length, getD, take}
+use lib.Seq.{ext-getD, getD-take}
+use Rattle.lists.specs.Lists.{element}
 use Rattle.shape.specs.declared.Shape.{Shape}
 use Rattle.shape.specs.declared.Answer.{Answer}
 use Rattle.shape.specs.declared.Answer.the-variants.{Done, Refused}
@@ -16,12 +17,14 @@ use Rattle.shape.proofs.Answers.{afterwards-done, afterwards-refused}
 use Rattle.code.specs.Code.{narrow}
 use Rattle.code.specs.Archive.{dataOf}
 use Rattle.code.specs.Refusals.{openInputRefusal, dataRefusal, openRefusal}
+use Rattle.code.specs.Steps.{dataFits}
 use Rattle.code.specs.Promises.{Opens}
+use Rattle.rows.specs.Rows.{Stored}
 use Rattle.code.proofs.Accepted.{Openable, open-accepted}
 use Rattle.code.proofs.Promised.{opens-refused, opens-done}
 use Rattle.code.proofs.Opening.{fit-all, fit-not-all, opened-end}
-use Rattle.opening.specs.Steps.{Readable, opened, Walked, AllData, OpenedAll}
-use Rattle.opening.proofs.Places.{opened-data}
+use Rattle.opening.specs.Steps.{Readable, opened, Walked, AllData, AllListed, OpenedAll}
+use Rattle.opening.proofs.Places.{opened-data, whole-data}
 
 pub readable : (s : Shape) (list symbols : List ℕ) (len room : ℕ) → openInputRefusal narrow s list symbols len room 0 ≡ 0 → Readable s list symbols
 readable s list symbols len room e =
@@ -72,6 +75,31 @@ module _ (s : Shape) (list symbols before : List ℕ) (input : openInputRefusal 
           (λ e h. let l : e < s .k * size s = omega (arith, able .fits) in v .there (also again refl) e l h ∙ same e l)
           ∙ sym (afterwards-done before _ _ fine);
     }
+
+  -- the data nodes themselves, judged and copied
+  module _ (last : AllListed list) where
+    here : (e : ℕ) → e < s .k * size s → getD (dataOf narrow s list symbols) e 0 ≡ getD symbols e 0
+    here = whole-data s list symbols (readable s list symbols len len input) last
+
+    pub copy-turned-back : (((t : ℕ) → t < length symbols → dataFits (length before) (0 + t) (getD symbols t 0) ≡ true) → ⊥) → OpenedAll s list symbols before before (Refused NoTranscript)
+    copy-turned-back off =
+        let seven = fit-not-all s list symbols len len able (λ all. off (λ t h.
+        let l : t < s .k * size s = omega (arith, able .long) in
+        let z : 0 + t ≡ t = omega arith in rw (z, ← here t l) (all t l))) in
+        record { long = refl; number = sym seven; bytes = sym (afterwards-refused before _ NoTranscript _ (sym seven)) }
+
+    pub data-copied : (after : List ℕ) → ((t : ℕ) → t < length symbols → dataFits (length before) (0 + t) (getD symbols t 0) ≡ true)
+        → Stored 0 (length before) (element (take (length before) symbols)) before after → OpenedAll s list symbols before after Done
+    data-copied after fit put =
+        let none = fit-all s list symbols len len able (λ e h. let z : 0 + e ≡ e = omega arith in rw (here e h) (rw z at (fit e (omega (arith, able .long))))) in
+        record {
+          long = put .long;
+          number = sym none;
+          bytes = opened-end s list symbols len len able after (put .long) (λ e h.
+              let z : 0 + e ≡ e = omega arith in
+              rw z at (put .there e h) ∙ getD-take len symbols e 0 h ∙ sym (here e (omega (arith, able .fits))))
+              ∙ sym (afterwards-done before _ _ none);
+        }
 
 -- where the input passed, that is what is promised
 pub opens-by : (s : Shape) (list symbols : List ℕ) (len : ℕ) (before after : List ℕ) (answer : Answer) → openInputRefusal narrow s list symbols len (length before) 0 ≡ 0

@@ -13,7 +13,7 @@ use Rattle.lists.specs.Lists.{range, member, position}
 use Rattle.lists.proofs.Tests.{true-or-false}
 use Rattle.lists.specs.Sums.{sum}
 use Rattle.lists.proofs.Tables.{range-at, range-length}
-use Rattle.lists.proofs.Members.{member-of, at-position, rising-in-order}
+use Rattle.lists.proofs.Members.{at-position, rising-in-order}
 use Rattle.lists.proofs.Places.{place-of}
 use Rattle.lists.proofs.Sums.{sum-ext}
 use Rattle.shape.specs.declared.Shape.{Shape}
@@ -30,7 +30,7 @@ use Rattle.tables.specs.Tables.{tableSize, Table}
 use Rattle.filling.specs.Filling.{InRun, term, Summable, Summed}
 use Rattle.filling.proofs.Filling.{row-room}
 use Rattle.opening.specs.Opening.{factor, weighed}
-use Rattle.opening.specs.Steps.{Readable, opened, Factors, Walked, OneOf, OfListed, AtBlock, Missing, AllData}
+use Rattle.opening.specs.Steps.{Readable, opened, Factors, Walked, OneOf, OfListed, AtBlock, Missing, AllData, AllListed}
 use Rattle.opening.proofs.Opening.{factor-missing, opened-sum}
 use Rattle.opening.proofs.Walking.{walked-as, walked-then}
 
@@ -124,23 +124,20 @@ module _ (s : Shape) (list symbols : List ℕ) (given : Readable s list symbols)
       from i h (inl m) = inl (data-listed i h m)
       from i h (inr m) = inr (h, m)
 
-  -- where one of the listed does not fit; and where the data nodes are the listed ones, and all fit
+  -- where one of the listed does not fit
   pub listed-misfit : (len room : ℕ) (before after : List ℕ) (fit : Bool) → fit ≡ false → Walked (opened s list symbols) len room (OneOf (s .k) (OfListed s list)) before after fit
       → Walked (opened s list symbols) len room (AllData s) before after false
   listed-misfit len room before after fit e w =
       walked-as _ _ _ (OneOf (s .k) (OfListed s list)) (AllData s) before after false listed-data (λ z. absurd (false≢true z))
       (subst (Walked (opened s list symbols) len room (OneOf (s .k) (OfListed s list)) before after) e w)
 
-  pub listed-whole : getD list (length list - 1) 0 < length list → (len room : ℕ) (before after : List ℕ) (fit : Bool) → fit ≡ true
-      → Walked (opened s list symbols) len room (OneOf (s .k) (OfListed s list)) before after fit → Walked (opened s list symbols) len room (AllData s) before after true
-  listed-whole last len room before after fit e w =
-      walked-as _ _ _ (OneOf (s .k) (OfListed s list)) (AllData s) before after true listed-data (λ _ i h. data-listed i h (all-listed i h))
-      (subst (Walked (opened s list symbols) len room (OneOf (s .k) (OfListed s list)) before after) e w)
-    where
-      all-listed : (i : ℕ) → AllData s i → member (i / N) list ≡ true
-      all-listed i h =
-          let l : i / N < length list = omega (arith, place-of (s .k) N i h .row, given .count) in
-          subst (λ z. member z list ≡ true) (rising-in-order (s .n) list (given .up) last (i / N) l) (member-of list (i / N) l)
+  -- where the data nodes themselves are listed, all data symbols are handed in
+  pub whole-data : AllListed list → (e : ℕ) → e < s .k * size s → getD (dataOf narrow s list symbols) e 0 ≡ getD symbols e 0
+  whole-data last e h =
+      let p = place-of (s .k) N e h in
+      let own = rising-in-order (s .n) list (given .up) last (e / N) (omega (arith, p .row, given .count)) in
+      sym (opened-data e h) ∙ sym (ap (opened s list symbols) (p .whole)) ∙ opened-listed (e / N) (e / N) (e % N) (p .row) (p .row) own (p .place)
+      ∙ ap (λ z. getD symbols z 0) (p .whole)
 
   -- ---- a node that is not listed, at a run of places
 

@@ -3,7 +3,7 @@ use mathlib.Core.Path.{_≡_}
 use mathlib.Core.Logic.{_⊎_}
 use mathlib.Core.Bool.{Bool, true, false}
 use mathlib.Core.List.{List}
-use Prim.Native.Nat.{ℕ, _+_, _*_, _/_, _%_, _^_, _≤_, _<_}
+use Prim.Native.Nat.{ℕ, _+_, _-_, _*_, _/_, _%_, _^_, _≤_, _<_}
 use lib.ListN.{length, getD, take}
 use Rattle.lists.specs.Lists.{member, rising}
 use Rattle.shape.specs.declared.Shape.{Shape}
@@ -85,6 +85,10 @@ Missing s list e = (e < s .k * size s) × (member (e / size s) list ≡ false)
 -- all data symbols
 abbrev pub AllData : Shape → ℕ → Type 0
 AllData s e = e < s .k * size s
+
+-- the last of the listed nodes is below their count: they are nodes 0, 1, ..
+abbrev pub AllListed : List ℕ → Type 0
+AllListed list = getD list (length list - 1) 0 < length list
 
 -- cause 7, and the bytes where it does not hold
 pub record OpenedAll (s : Shape) (list symbols before after : List ℕ) (answer : Answer) : Type 0 where

@@ -22,9 +22,11 @@ use tables::TABLE;
 use tables::marks;
 ghost use mathlib.Core.Path.{_≡_};
 ghost use mathlib.Core.Bool.{true, false};
-ghost use Prim.Native.Nat.{ℕ, _+_, _-_, _*_, _^_, _≤_, _<_};
+ghost use mathlib.Core.List.{List};
+ghost use Prim.Native.Nat.{ℕ, _+_, _*_, _^_, _≤_, _<_};
 ghost use lib.ListN.{length, getD};
 ghost use Rattle.lists.specs.Lists.{element};
+ghost use Rattle.shape.specs.declared.Shape.{Shape};
 ghost use Rattle.shape.specs.Shape.{size, byteValues};
 ghost use Rattle.shape.specs.Refusals.{shapeBad, answerNumber};
 ghost use Rattle.code.specs.Code.{narrow};
@@ -34,7 +36,7 @@ ghost use Rattle.rows.specs.Rows.{mostPlaces, Low, Stored};
 ghost use Rattle.tables.specs.Tables.{tableSize, Marks};
 ghost use Rattle.patterns.specs.Patterns.{patterns, Represented};
 ghost use Rattle.filling.specs.Filling.{InRun};
-ghost use Rattle.opening.specs.Steps.{Readable, Factors, MissingRow, BeforeEnd, RowFits, opened, Walked, OneOf, OfListed, AtRun, AtLayer, Missing, AllData, OpenedAll};
+ghost use Rattle.opening.specs.Steps.{Readable, Factors, MissingRow, BeforeEnd, RowFits, opened, Walked, OneOf, OfListed, AtRun, AtLayer, Missing, AllData, AllListed, OpenedAll};
 
 // Causes 1, 2, 4 and 5 of opening into a buffer of `room` bytes, in this order.
 fn judge_open(s: Shape, list: &[usize], symbols: &[u16], len: usize, room: usize) -> Answer
@@ -262,15 +264,6 @@ fn open_runs(
     true
 }
 
-// Whether the k listed nodes are the data nodes themselves.
-fn all_data(list: &[usize]) -> bool
-    requires { ⌜ 0 < length (now list) ⌝ }
-    ensures { λ r. ⌜ (r ≡ true → getD (now (list .entry)) (length (now (list .entry)) - 1) 0 < length (now (list .entry))) ⌝ }
-{
-    let k = list.len();
-    list[k - 1] < k
-}
-
 // All data symbols, judged and, as far as `room` goes, stored: what both judging and storing run.
 fn walk(
     s: Shape,
@@ -288,9 +281,6 @@ fn walk(
 {
     if !open_listed(s, list, symbols, len, room, transcript) {
         return false;
-    }
-    if all_data(list) {
-        return true;
     }
     open_runs(s, list, marked, few, source, symbols, len, room, transcript)
 }
@@ -334,14 +324,39 @@ fn open_from_few(
     judge_and_store(s, list, marked, true, &source, symbols, transcript)
 }
 
+// Whether the k listed nodes are the data nodes themselves.
+fn all_data(list: &[usize]) -> bool
+    requires { ⌜ 0 < length (now list) ⌝ }
+    ensures { λ r. ⌜ (r ≡ true → AllListed (now (list .entry))) ⌝ }
+{
+    let k = list.len();
+    list[k - 1] < k
+}
+
+// Cause 7, and the bytes, where they are: a judgement and a copy.
+fn copy_data(symbols: &[u16], transcript: &mut [u8]) -> Answer
+    requires { ⌜ length (now transcript) ≤ length (now symbols) ⌝ }
+    ensures { λ answer. ⌜ ((s : Shape) (list : List ℕ) → openInputRefusal narrow s list (now (symbols .entry)) (length (now (transcript .entry))) (length (now (transcript .entry))) 0 ≡ 0 → AllListed list → OpenedAll s list (now (symbols .entry)) (now (transcript .entry)) (now (transcript .exit)) answer) ⌝ }
+{
+    let len = transcript.len();
+    if !row_fits(len, 0, symbols) {
+        return Answer::Refused(Refusal::NoTranscript);
+    }
+    store_bytes(&symbols[..len], 0, transcript);
+    Answer::Done
+}
+
 // Cause 7, and the bytes, by multipliers picked from few where that pays.
 fn open_data(s: Shape, list: &[usize], symbols: &[u16], transcript: &mut [u8]) -> Answer
     requires { ⌜ openInputRefusal narrow s (now list) (now symbols) (length (now transcript)) (length (now transcript)) 0 ≡ 0 ⌝ }
     ensures { λ answer. ⌜ OpenedAll s (now (list .entry)) (now (symbols .entry)) (now (transcript .entry)) (now (transcript .exit)) answer ⌝ }
 {
+    if all_data(list) {
+        return copy_data(symbols, transcript);
+    }
     let n = s.n;
     let marked = marks(n, list);
-    if !all_data(list) & pays(n, marked) {
+    if pays(n, marked) {
         return open_from_few(s, list, marked, symbols, transcript);
     }
     let none = [0u16; 1];

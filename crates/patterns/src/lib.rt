@@ -18,7 +18,7 @@ ghost use Rattle.tables.specs.Tables.{tableSize, Marks};
 ghost use Rattle.patterns.specs.Patterns.{pattern, patterns, lengthened, Stands, Represented};
 
 // "Bit i of a is its binary digit worth 2^i."
-pub fn bit(a: usize, i: usize) -> usize
+fn bit(a: usize, i: usize) -> usize
     requires { ⌜ i < mostNodes ⌝ }
     ensures { λ r. ⌜ r ≡ bit i a ⌝ }
 {

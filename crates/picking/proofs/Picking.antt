@@ -17,14 +17,14 @@ use Rattle.shape.specs.Shape.{mostNodes}
 use Rattle.code.specs.Code.{narrow, basePoint, point, points, GoodCode}
 use Rattle.code.proofs.NodePoints.{good-fewer, points-length, points-at, points-good}
 use Rattle.code.proofs.Narrow.{narrow-good}
-use Rattle.rows.specs.Rows.{mostPlaces, Stored}
+use Rattle.rows.specs.Rows.{mostPlaces, Low, Stored}
 use Rattle.rows.proofs.Rows.{stored-low}
 use Rattle.multipliers.specs.Multipliers.{multiplier}
 use Rattle.multipliers.proofs.Multipliers.{multiplier-ext}
 use Rattle.multipliers.proofs.Opposites.{multiplier-opposite}
 use Rattle.tables.specs.Tables.{MultiplierRow, NodeRows}
 use Rattle.patterns.specs.Patterns.{pattern, patterns, Stands}
-use Rattle.picking.specs.Picking.{lookedUp, picked, Pickable}
+use Rattle.picking.specs.Picking.{lookedUp, lookedAt, LookedUp, lookedSize, picked, Pickable}
 use Rattle.patterns.proofs.Patterns.{pattern-lt, turned-bit, pattern-turned}
 
 abbrev q : ℕ
@@ -137,8 +137,8 @@ module _ (n m a run : ℕ) (list : List ℕ) (marked : List Bool) (picks : List 
         index = omega (arith, w .picks-are t inside, w .last-is, pattern-turned marked (a + t) b n bits)
 
     -- and what is picked
-    chosen : picked a node picks last source ((i * length list + j) * mostPlaces) t ≡ multiplier q (points narrow n (a + t)) list i j
-    unfolding picked lookedUp
+    chosen : getD source ((i * length list + j) * mostPlaces + lookedAt a node picks last t) 0 ≡ multiplier q (points narrow n (a + t)) list i j
+    unfolding lookedAt lookedUp
     chosen = go (eqb (bit node (a + t)) 0) refl
       where
         go : (b : Bool) → eqb (bit node (a + t)) 0 ≡ b
@@ -147,23 +147,51 @@ module _ (n m a run : ℕ) (list : List ℕ) (marked : List Bool) (picks : List 
         go true e = rw e (plain (eqb-true _ _ e))
         go false e = rw e (opposite (let z : bit node (a + t) ≢ 0 = eqb-false _ _ e in omega (arith, z, bit-lt node (a + t))))
 
-  picked-low : (node at t : ℕ) → picked a node picks last source at t < q
-  unfolding picked
-  picked-low node at t = w .held .held .low .at _
-
-  module _ (i : ℕ) (within : i < m) (u : member i list ≡ false) where
+  module _ (looked : List ℕ) (v : LookedUp a run list picks last (length list) looked) (i : ℕ) (within : i < m) (u : member i list ≡ false) where
     pub picks-none : (before : List ℕ) → NodeRows n (_+_ a) run list i 0 before before
     picks-none before = record { low = λ l. l; kept = λ e h. refl; made = λ j h. absurd (omega arith) }
 
     pub picks-more : (j : ℕ) (before now after : List ℕ) → run ≤ mostPlaces → j < length list → NodeRows n (_+_ a) run list i j before now
-        → Stored ((i * length list + j) * mostPlaces) run (picked a (getD list j 0) picks last source ((i * length list + j) * mostPlaces)) now after
+        → Stored ((i * length list + j) * mostPlaces) run (picked looked (j * mostPlaces) source ((i * length list + j) * mostPlaces)) now after
         → NodeRows n (_+_ a) run list i (j + 1) before after
+    unfolding picked
     picks-more j before now after few h so-far put = record {
-      low = λ l. stored-low q _ run _ now after put (so-far .low l) (λ t g. picked-low (getD list j 0) _ t);
+      low = λ l. stored-low q _ run _ now after put (so-far .low l) (λ t g. w .held .held .low .at _);
       kept = λ e l. put .ahead e (omega arith) ∙ so-far .kept e l;
       made = λ x l. go x l (ℕ-discrete x j);
     }
       where
+        under : (t : ℕ) → t < run
+            → picked looked (j * mostPlaces) source ((i * length list + j) * mostPlaces) t ≡ getD source ((i * length list + j) * mostPlaces + lookedAt a (getD list j 0) picks last t) 0
+        under t g = ap (λ p. getD source ((i * length list + j) * mostPlaces + p) 0) (v .each j t h g)
+
         go : (x : ℕ) → x < j + 1 → Dec (x ≡ j) → MultiplierRow n (_+_ a) run list after i x
         go x l (no d) = record { each = λ t g. put .ahead _ (omega arith) ∙ so-far .made x (omega arith) .each t g }
-        go x l (yes d) = rw d (record { each = λ t g. put .there t g ∙ chosen i j t within u h g })
+        go x l (yes d) = rw d (record { each = λ t g. put .there t g ∙ under t g ∙ chosen i j t within u h g })
+
+-- ---- a row of patterns more
+
+module _ (a run : ℕ) (list picks : List ℕ) (last : ℕ) (few : run ≤ mostPlaces) (top : last < mostPlaces) (under : (t : ℕ) → t < run → getD picks t 0 ≤ last) where
+  pub looked-none : (looked : List ℕ) → length looked ≡ lookedSize → Low mostPlaces looked → LookedUp a run list picks last 0 looked
+  looked-none looked long low = record { long = long; low = low; each = λ j t h. absurd (omega arith) }
+
+  -- none is beyond the last
+  looked-low : (node t : ℕ) → t < run → lookedAt a node picks last t < mostPlaces
+  unfolding lookedAt lookedUp
+  looked-low node t h = go (eqb (bit node (a + t)) 0)
+    where
+      go : (b : Bool) → cond b (getD picks t 0) (last - getD picks t 0) < mostPlaces
+      go true = omega (arith, under t h)
+      go false = omega arith
+
+  pub looked-more : (j : ℕ) (now after : List ℕ) → LookedUp a run list picks last j now → Stored (j * mostPlaces) run (lookedAt a (getD list j 0) picks last) now after
+      → LookedUp a run list picks last (j + 1) after
+  looked-more j now after w put = record {
+    long = put .long ∙ w .long;
+    low = stored-low mostPlaces (j * mostPlaces) run _ now after put (w .low) (looked-low (getD list j 0));
+    each = λ i t h l. go i t h l (ℕ-discrete i j);
+  }
+    where
+      go : (i t : ℕ) → i < j + 1 → t < run → Dec (i ≡ j) → getD after (i * mostPlaces + t) 0 ≡ lookedAt a (getD list i 0) picks last t
+      go i t h l (yes d) = rw d (put .there t l)
+      go i t h l (no d) = put .ahead _ (omega (arith, d)) ∙ w .each i t (omega (arith, d)) l

@@ -1,13 +1,10 @@
 -- `opening::judge_and_store` meets its contract. Assumes nothing.
-use Rattle.opening.proofs.Judged.{readable, turned-back, judged-stored}
-use borrow.Author.Tests.{not-true, not-false}
 use native.Mathlib.Omega.{arith}
+use borrow.Author.Tests.{not-true, not-false}
 use borrow.Author.Needs.{needs}
+use Rattle.opening.proofs.Judged.{readable, turned-back, judged-stored}
 use Rattle.opening.proofs.judge_and_store.Statement.{statement}
 use Rattle.opening.proofs.judge_and_store.Tie as tie
-use Rattle.opening.proofs.judge_and_store.Reads as reads
-use Rattle.opening.proofs.judge_and_store.Lts as lts
-use Rattle.opening.proofs.walk.Reads as walk-reads
 
 walk-requires : tie.Need-walk-requires
 walk-requires c κs =

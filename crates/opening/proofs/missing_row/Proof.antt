@@ -1,29 +1,21 @@
 -- `opening::missing_row` meets its contract. Assumes nothing.
-use Rattle.rows.specs.Rows.{remainder}
-use lib.ListN.{getD}
-use Prim.Native.Nat.{_+_, _≤_}
 use mathlib.Core.Path.{_≡_, refl, sym, ap, _∙_}
-use Rattle.opening.proofs.Places.{missing-summable, missing-weighed}
-use Rattle.code.proofs.Writing.{first-nodes}
-use Rattle.shape.proofs.Accepted.{shape-accepted}
-use Rattle.shape.specs.Shape.{mostNodes}
-use lib.Seq.{length-take-le}
+use Prim.Native.Nat.{_+_, _≤_}
 use native.Mathlib.Omega.{arith}
 use native.Mathlib.Nat.{mul-le-mul}
 use borrow.Author.Needs.{needs}
+use lib.ListN.{getD}
+use lib.Seq.{length-take-le}
+use Rattle.shape.proofs.Accepted.{shape-accepted}
+use Rattle.shape.specs.Shape.{mostNodes}
+use Rattle.rows.specs.Rows.{remainder}
+use Rattle.code.proofs.Writing.{first-nodes}
+use Rattle.opening.proofs.Places.{missing-summable, missing-weighed}
 use Rattle.opening.proofs.missing_row.Statement.{statement}
 use Rattle.opening.proofs.missing_row.Tie as tie
-use Rattle.opening.proofs.missing_row.Reads as reads
-use Rattle.opening.proofs.missing_row.Lts as lts
-use Rattle.filling.proofs.sum_row.Reads as sum-row-reads
-use Rattle.rows.proofs.store.Reads as store-reads
-use Rattle.shape.proofs.size.Reads as size-reads
 
 few : (c : tie.Start) → c .args .s .k ≤ mostNodes
 few c = let w = shape-accepted _ (c .pre .0) in omega (arith, w .k-high, w .n-high)
-
-size-requires : tie.Need-size-requires
-size-requires c κs = search needs
 
 array-share-prefix-all : tie.Need-array-share-prefix-all
 array-share-prefix-all c = few (c .before .before .before)
@@ -67,7 +59,7 @@ pub missing-row-spec : {M : Type 1} → statement M
 missing-row-spec =
     tie.close
     (tie.spec
-    size-requires
+    (λ c κs. search needs)
     array-share-prefix-all
     slice-aggregate-sum-row
     mul-sum-row

@@ -1,30 +1,17 @@
 -- `opening::open` meets its contract. Assumes nothing.
-use Rattle.opening.proofs.Judged.{opens-by}
+use mathlib.Core.Path.{_≡_, sym, ap, _∙_}
+use native.Mathlib.Omega.{arith}
+use borrow.Author.Needs.{needs}
+use lib.ListN.{length}
+use Rattle.shape.proofs.Answers.{number-positive}
+use Rattle.shape.specs.Refusals.{answerNumber}
 use Rattle.code.proofs.Promised.{opens-refused}
 use Rattle.code.proofs.Accepted.{open-accepted, open-turned}
 use Rattle.code.specs.Refusals.{openInputRefusal, openRefusal}
 use Rattle.code.specs.Code.{narrow}
-use Rattle.shape.proofs.Answers.{number-positive}
-use Rattle.shape.specs.Refusals.{answerNumber}
-use lib.ListN.{length}
-use native.Mathlib.Omega.{arith}
-use mathlib.Core.Path.{_≡_, sym, ap, _∙_}
-use borrow.Author.Needs.{needs}
+use Rattle.opening.proofs.Judged.{opens-by}
 use Rattle.opening.proofs.open.Statement.{statement}
 use Rattle.opening.proofs.open.Tie as tie
-use Rattle.opening.proofs.open.Reads as reads
-use Rattle.opening.proofs.open.Lts as lts
-use Rattle.opening.proofs.judge_open.Reads as judge-open-reads
-use Rattle.opening.proofs.open_data.Reads as open-data-reads
-
-judge-open-requires : tie.Need-judge-open-requires
-judge-open-requires c κs = search needs
-
-enum-known-cause : tie.Need-enum-known-cause
-enum-known-cause c = search needs
-
-enum-told : tie.Need-enum-told
-enum-told c = search needs
 
 -- the judging found no cause
 accepted : (c : tie.After-enum-told) →
@@ -53,9 +40,9 @@ pub open-spec : {M : Type 1} → statement M
 open-spec =
     tie.close
     (tie.spec
-    judge-open-requires
-    enum-known-cause
-    enum-told
+    (λ c κs. search needs)
+    (λ c. search needs)
+    (λ c. search needs)
     open-data-requires
     returns
     same-length

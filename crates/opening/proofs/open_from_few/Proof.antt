@@ -1,17 +1,12 @@
 -- `opening::open_from_few` meets its contract. Assumes nothing.
-use Rattle.opening.proofs.Judged.{readable}
-use Rattle.tables.specs.Tables.{tableSize}
-use Rattle.rows.proofs.Rows.{low-replicate}
-use Rattle.shape.proofs.Accepted.{shape-accepted}
-use native.Mathlib.Omega.{arith}
 use mathlib.Core.Path.{refl, sym}
-use borrow.Author.Needs.{needs}
+use native.Mathlib.Omega.{arith}
+use Rattle.shape.proofs.Accepted.{shape-accepted}
+use Rattle.rows.proofs.Rows.{low-replicate}
+use Rattle.tables.specs.Tables.{tableSize}
+use Rattle.opening.proofs.Judged.{readable}
 use Rattle.opening.proofs.open_from_few.Statement.{statement}
 use Rattle.opening.proofs.open_from_few.Tie as tie
-use Rattle.opening.proofs.open_from_few.Reads as reads
-use Rattle.opening.proofs.open_from_few.Lts as lts
-use Rattle.opening.proofs.judge_and_store.Reads as judge-and-store-reads
-use Rattle.patterns.proofs.represent.Reads as represent-reads
 
 slice-aggregate-represent : tie.Need-slice-aggregate-represent
 slice-aggregate-represent c = refl

@@ -1,23 +1,18 @@
 -- `opening::open_layers` meets its contract. Assumes nothing.
-use Rattle.opening.proofs.Places.{table-factors}
-use Rattle.opening.proofs.Walking.{walked-none, walked-on, walked-ends}
-use Rattle.opening.specs.Steps.{opened, Walked, OneOf, AtLayer}
-use Rattle.shape.proofs.Accepted.{shape-accepted}
-use Rattle.shape.specs.Shape.{mostNodes, mostLayers, size}
-use borrow.Author.Tests.{not-true, not-false}
-use native.Mathlib.Omega.{arith}
-use native.Mathlib.Nat.{mul-le-mul-right}
-use Prim.Native.Nat.{ℕ, _+_, _*_, _-_, _^_, _≤_}
 use mathlib.Core.Bool.{true}
 use mathlib.Core.Path.{_≡_, sym, _∙_, subst}
+use Prim.Native.Nat.{_+_, _*_, _-_, _^_, _≤_}
+use native.Mathlib.Omega.{arith}
+use native.Mathlib.Nat.{mul-le-mul-right}
+use borrow.Author.Tests.{not-true, not-false}
 use borrow.Author.Needs.{needs}
+use Rattle.shape.proofs.Accepted.{shape-accepted}
+use Rattle.shape.specs.Shape.{mostNodes, mostLayers, size}
+use Rattle.opening.specs.Steps.{opened, Walked, OneOf, AtLayer}
+use Rattle.opening.proofs.Places.{table-factors}
+use Rattle.opening.proofs.Walking.{walked-none, walked-on, walked-ends}
 use Rattle.opening.proofs.open_layers.Statement.{statement}
 use Rattle.opening.proofs.open_layers.Tie as tie
-use Rattle.opening.proofs.open_layers.Reads as reads
-use Rattle.opening.proofs.open_layers.Lts as lts
-use Rattle.opening.proofs.open_run.Reads as open-run-reads
-use Rattle.picking.proofs.run_multipliers.Reads as run-multipliers-reads
-use Rattle.shape.proofs.two_to.Reads as two-to-reads
 
 abbrev Inv-loop : tie.InvT-loop
 Inv-loop s a run list marked few source table symbols len room transcript₀ n k layers two layer₀ transcript layer = (layer ≤ layers) × Walked (opened s list symbols) len room (OneOf layer (AtLayer s list run a)) transcript₀ transcript true
@@ -87,9 +82,6 @@ returns c =
 add-layer : tie.Need-add-layer Inv-loop μ-loop
 add-layer c = omega (arith, c .before .before .before .before .before .before .loop-test .taken, shape-accepted _ (c .before .before .before .before .before .before .before .before .before .before .before .before .before .before .before .before .before .before .pre .0 .shape) .layers-high)
 
-loop-less : tie.Need-loop-less Inv-loop μ-loop
-loop-less c = search needs
-
 loop-again : tie.Need-loop-again Inv-loop μ-loop
 loop-again c =
     let l = c .before .before .before .before .before .before .before .loop in
@@ -128,7 +120,7 @@ open-layers-spec =
     same-length-2
     returns
     add-layer
-    loop-less
+    (λ c. search needs)
     loop-again
     same-length-3
     same-length-4

@@ -1,23 +1,19 @@
 -- `opening::open_listed` meets its contract. Assumes nothing.
-use Rattle.opening.proofs.Places.{listed-walked}
-use lib.ListN.{length, getD}
-use Rattle.opening.proofs.Walking.{walked-none, walked-skip, walked-on, walked-ends}
-use Rattle.shape.specs.Shape.{size}
-use Rattle.opening.specs.Steps.{opened, Walked, OneOf, OfListed}
-use Rattle.shape.proofs.Accepted.{shape-accepted}
-use borrow.Author.Tests.{not-true, not-false}
-use native.Mathlib.Omega.{arith}
-use native.Mathlib.Nat.{mul-le-mul, mul-le-mul-right}
-use Prim.Native.Nat.{ℕ, _+_, _-_, _*_, _≤_, _<_}
 use mathlib.Core.Bool.{true}
 use mathlib.Core.Path.{_≡_, refl, _∙_, subst}
+use Prim.Native.Nat.{_+_, _-_, _*_, _≤_, _<_}
+use native.Mathlib.Omega.{arith}
+use native.Mathlib.Nat.{mul-le-mul, mul-le-mul-right}
+use borrow.Author.Tests.{not-true, not-false}
 use borrow.Author.Needs.{needs}
+use lib.ListN.{length, getD}
+use Rattle.shape.specs.Shape.{size}
+use Rattle.shape.proofs.Accepted.{shape-accepted}
+use Rattle.opening.specs.Steps.{opened, Walked, OneOf, OfListed}
+use Rattle.opening.proofs.Places.{listed-walked}
+use Rattle.opening.proofs.Walking.{walked-none, walked-skip, walked-on, walked-ends}
 use Rattle.opening.proofs.open_listed.Statement.{statement}
 use Rattle.opening.proofs.open_listed.Tie as tie
-use Rattle.opening.proofs.open_listed.Reads as reads
-use Rattle.opening.proofs.open_listed.Lts as lts
-use Rattle.opening.proofs.open_row.Reads as open-row-reads
-use Rattle.shape.proofs.size.Reads as size-reads
 
 abbrev Inv-loop : tie.InvT-loop
 Inv-loop s list symbols len room transcript₀ each j₀ j-end transcript j = (j ≤ j-end) × (j-end ≡ length list) × Walked (opened s list symbols) len room (OneOf j (OfListed s list)) transcript₀ transcript true
@@ -59,18 +55,6 @@ size-requires c κs = c .before .before .before .pre .0 .shape
 loop-holds : tie.Need-loop-holds Inv-loop μ-loop
 loop-holds c = (search needs, refl, walked-none _ _ _ _ _)
 
-mul-node : tie.Need-mul-node Inv-loop μ-loop
-mul-node c = search needs
-
-shared-slice-read-node : tie.Need-shared-slice-read-node Inv-loop μ-loop
-shared-slice-read-node c = search needs
-
-add-j : tie.Need-add-j Inv-loop μ-loop
-add-j c = search needs
-
-loop-less : tie.Need-loop-less Inv-loop μ-loop
-loop-less c = search needs
-
 loop-again : tie.Need-loop-again Inv-loop μ-loop
 loop-again c =
     let l = c .before .before .before .before .loop in
@@ -88,12 +72,6 @@ mul-open-row c = omega (arith, within c)
 mul-open-row-2 : tie.Need-mul-open-row-2 Inv-loop μ-loop
 mul-open-row-2 c = omega (arith, within c)
 
-sub-open-row : tie.Need-sub-open-row Inv-loop μ-loop
-sub-open-row c = search needs
-
-part-open-row-start : tie.Need-part-open-row-start Inv-loop μ-loop
-part-open-row-start c = search needs
-
 part-open-row-end : tie.Need-part-open-row-end Inv-loop μ-loop
 part-open-row-end c = omega (arith, within c)
 
@@ -107,12 +85,6 @@ returns : tie.Need-returns Inv-loop μ-loop
 returns c =
     let l = c .before .before .before .before .before .before .before .before .before .before .loop in
     walked-ends _ _ _ _ _ (l .j) _ (l .inv .2) _ _ (walked (c .before .before .before)) _ (below (c .before .before .before .before .before .before .before .before .before)) (not-true _ (c .if2 .taken))
-
-add-j-2 : tie.Need-add-j-2 Inv-loop μ-loop
-add-j-2 c = search needs
-
-loop-less-2 : tie.Need-loop-less-2 Inv-loop μ-loop
-loop-less-2 c = search needs
 
 loop-again-2 : tie.Need-loop-again-2 Inv-loop μ-loop
 loop-again-2 c =
@@ -138,23 +110,23 @@ open-listed-spec =
     μ-loop
     size-requires
     loop-holds
-    mul-node
-    shared-slice-read-node
-    add-j
-    loop-less
+    (λ c. search needs)
+    (λ c. search needs)
+    (λ c. search needs)
+    (λ c. search needs)
     loop-again
     mul-from
     add-to
     mul-open-row
     mul-open-row-2
-    sub-open-row
-    part-open-row-start
+    (λ c. search needs)
+    (λ c. search needs)
     part-open-row-end
     open-row-requires
     same-length
     returns
-    add-j-2
-    loop-less-2
+    (λ c. search needs)
+    (λ c. search needs)
     loop-again-2
     same-length-2
     returns-2)

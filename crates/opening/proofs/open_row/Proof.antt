@@ -1,30 +1,19 @@
 -- `opening::open_row` meets its contract. Assumes nothing.
-use Rattle.code.proofs.Opening.{fits-byte}
-use lib.Seq.{length-take-le, getD-take}
+use mathlib.Core.Path.{sym}
 use Prim.Native.Nat.{_<_}
 use native.Mathlib.Omega.{arith}
-use Rattle.opening.proofs.Walking.{row-misfit, row-walked}
 use borrow.Author.Tests.{not-true, not-false}
-use mathlib.Core.Path.{sym}
 use borrow.Author.Needs.{needs}
+use lib.Seq.{length-take-le, getD-take}
+use Rattle.code.proofs.Opening.{fits-byte}
+use Rattle.opening.proofs.Walking.{row-misfit, row-walked}
 use Rattle.opening.proofs.open_row.Statement.{statement}
 use Rattle.opening.proofs.open_row.Tie as tie
-use Rattle.opening.proofs.open_row.Reads as reads
-use Rattle.opening.proofs.open_row.Lts as lts
-use Rattle.opening.proofs.before_end.Reads as before-end-reads
-use Rattle.opening.proofs.row_fits.Reads as row-fits-reads
-use Rattle.opening.proofs.store_bytes.Reads as store-bytes-reads
-
-row-fits-requires : tie.Need-row-fits-requires
-row-fits-requires c κs = search needs
 
 returns : tie.Need-returns
 returns c =
     let a = c .before .before .before .before .args in
     λ D same. row-misfit D (a .len) (a .room) (a .at) (a .row .now) (a .transcript .now) same (c .before .row-fits .ensures .not-each (not-true _ (c .if1 .taken)))
-
-before-end-requires : tie.Need-before-end-requires
-before-end-requires c κs = search needs
 
 slice-aggregate-store-bytes : tie.Need-slice-aggregate-store-bytes
 slice-aggregate-store-bytes c = sym (length-take-le _ _ (c .before .before-end .ensures .few))
@@ -53,9 +42,9 @@ pub open-row-spec : {M : Type 1} → statement M
 open-row-spec =
     tie.close
     (tie.spec
-    row-fits-requires
+    (λ c κs. search needs)
     returns
-    before-end-requires
+    (λ c κs. search needs)
     slice-aggregate-store-bytes
     store-bytes-requires
     same-length

@@ -1,29 +1,24 @@
 -- `opening::open_run` meets its contract. Assumes nothing.
-use Rattle.opening.proofs.Places.{row-opened}
-use Rattle.filling.proofs.Filling.{row-room}
-use Rattle.rows.proofs.Rows.{low-each}
-use Rattle.lists.specs.Lists.{member}
-use lib.Seq.{length-take-le, getD-take}
-use lib.ListN.{length, getD, take}
-use Rattle.opening.proofs.Walking.{walked-as, walked-none, walked-skip, walked-on, walked-ends}
-use Rattle.shape.specs.Shape.{size}
-use Rattle.filling.specs.Filling.{InRun}
-use Rattle.opening.specs.Steps.{opened, Walked, OneOf, AtRun}
-use Rattle.shape.proofs.Accepted.{shape-accepted}
-use borrow.Author.Tests.{not-true, not-false}
-use native.Mathlib.Omega.{arith}
-use native.Mathlib.Nat.{mul-le-mul, mul-le-mul-right}
-use Prim.Native.Nat.{ℕ, _+_, _-_, _*_, _≤_, _<_}
 use mathlib.Core.Bool.{true, false, true≢false}
 use mathlib.Core.Path.{_≡_, sym, _∙_, subst}
+use Prim.Native.Nat.{_+_, _-_, _*_, _≤_}
+use native.Mathlib.Omega.{arith}
+use native.Mathlib.Nat.{mul-le-mul}
+use borrow.Author.Tests.{not-true, not-false}
 use borrow.Author.Needs.{needs}
+use lib.Seq.{length-take-le, getD-take}
+use lib.ListN.{length, getD, take}
+use Rattle.lists.specs.Lists.{member}
+use Rattle.shape.specs.Shape.{size}
+use Rattle.shape.proofs.Accepted.{shape-accepted}
+use Rattle.rows.proofs.Rows.{low-each}
+use Rattle.filling.proofs.Filling.{row-room}
+use Rattle.filling.specs.Filling.{InRun}
+use Rattle.opening.specs.Steps.{opened, Walked, OneOf, AtRun}
+use Rattle.opening.proofs.Places.{row-opened}
+use Rattle.opening.proofs.Walking.{walked-as, walked-none, walked-skip, walked-on, walked-ends}
 use Rattle.opening.proofs.open_run.Statement.{statement}
 use Rattle.opening.proofs.open_run.Tie as tie
-use Rattle.opening.proofs.open_run.Reads as reads
-use Rattle.opening.proofs.open_run.Lts as lts
-use Rattle.opening.proofs.missing_row.Reads as missing-row-reads
-use Rattle.opening.proofs.open_row.Reads as open-row-reads
-use Rattle.shape.proofs.size.Reads as size-reads
 
 abbrev Inv-loop : tie.InvT-loop
 Inv-loop s place run list table symbols len room transcript₀ marked k each i₀ transcript i = (i ≤ k) × Walked (opened s list symbols) len room (OneOf i (AtRun s list run place)) transcript₀ transcript true
@@ -70,12 +65,6 @@ loop-holds c = (search needs, walked-none _ _ _ _ _)
 array-read-if1 : tie.Need-array-read-if1 Inv-loop μ-loop
 array-read-if1 c = let w = shape-accepted _ (c .before .before .before .before .before .before .before .pre .0 .shape) in omega (arith, c .loop-test .taken, w .k-high, w .n-high)
 
-add-i : tie.Need-add-i Inv-loop μ-loop
-add-i c = search needs
-
-loop-less : tie.Need-loop-less Inv-loop μ-loop
-loop-less c = search needs
-
 loop-again : tie.Need-loop-again Inv-loop μ-loop
 loop-again c =
     let l = c .before .before .loop in
@@ -109,12 +98,6 @@ returns c =
     let l = c .before .before .before .before .before .before .before .before .before .loop in
     walked-ends _ _ _ _ _ (l .i) _ (l .inv .1) _ _ (walked (c .before .before .before)) _ (c .before .before .before .before .before .before .before .before .loop-test .taken) (not-true _ (c .if2 .taken))
 
-add-i-2 : tie.Need-add-i-2 Inv-loop μ-loop
-add-i-2 c = search needs
-
-loop-less-2 : tie.Need-loop-less-2 Inv-loop μ-loop
-loop-less-2 c = search needs
-
 loop-again-2 : tie.Need-loop-again-2 Inv-loop μ-loop
 loop-again-2 c =
     let l = c .before .before .before .before .before .before .before .before .before .loop in
@@ -139,8 +122,8 @@ open-run-spec =
     size-requires
     loop-holds
     array-read-if1
-    add-i
-    loop-less
+    (λ c. search needs)
+    (λ c. search needs)
     loop-again
     missing-row-requires
     mul-open-row
@@ -150,8 +133,8 @@ open-run-spec =
     open-row-requires
     same-length
     returns
-    add-i-2
-    loop-less-2
+    (λ c. search needs)
+    (λ c. search needs)
     loop-again-2
     same-length-2
     returns-2)

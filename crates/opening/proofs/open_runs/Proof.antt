@@ -1,27 +1,22 @@
 -- `opening::open_runs` meets its contract. Assumes nothing.
-use Rattle.opening.proofs.Places.{all-walked, walked-all}
-use Rattle.opening.proofs.Walking.{walked-none, walked-on, walked-ends, walked-as}
-use Rattle.opening.specs.Steps.{opened, Walked, OneOf, AtBlock, Missing}
-use Rattle.tables.specs.Tables.{tableSize}
+use mathlib.Core.Bool.{true, false, false≢true}
+use mathlib.Core.Path.{_≡_, refl, sym, ap, _∙_}
+use Prim.Native.Nat.{_+_, _*_, _/_, _-_, _^_, _≤_}
+use native.Mathlib.Omega.{arith}
+use native.Mathlib.Nat.{mul-le-mul-right, div-le-self}
+use borrow.Author.Tests.{not-true, not-false}
+use borrow.Author.Needs.{needs}
+use lib.ListN.{length}
+use Rattle.shape.proofs.Accepted.{shape-accepted}
 use Rattle.rows.proofs.Rows.{low-replicate}
 use Rattle.rows.specs.Rows.{Low}
 use Rattle.code.specs.Code.{narrow}
-use Rattle.shape.proofs.Accepted.{shape-accepted}
-use lib.ListN.{length}
-use borrow.Author.Tests.{not-true, not-false}
-use native.Mathlib.Omega.{arith}
-use native.Mathlib.Nat.{mul-le-mul-right, div-le-self}
-use Prim.Native.Nat.{ℕ, _+_, _*_, _/_, _-_, _^_, _≤_}
-use mathlib.Core.Bool.{true, false, false≢true}
-use mathlib.Core.Path.{_≡_, refl, sym, ap, _∙_}
-use borrow.Author.Needs.{needs}
+use Rattle.tables.specs.Tables.{tableSize}
+use Rattle.opening.specs.Steps.{opened, Walked, OneOf, AtBlock, Missing}
+use Rattle.opening.proofs.Places.{all-walked, walked-all}
+use Rattle.opening.proofs.Walking.{walked-none, walked-on, walked-ends, walked-as}
 use Rattle.opening.proofs.open_runs.Statement.{statement}
 use Rattle.opening.proofs.open_runs.Tie as tie
-use Rattle.opening.proofs.open_runs.Reads as reads
-use Rattle.opening.proofs.open_runs.Lts as lts
-use Rattle.filling.proofs.run_of.Reads as run-of-reads
-use Rattle.opening.proofs.open_layers.Reads as open-layers-reads
-use Rattle.shape.proofs.two_to.Reads as two-to-reads
 
 abbrev Inv-loop : tie.InvT-loop
 Inv-loop s list marked few source symbols len room transcript₀ n two run table₀ block₀ block-end transcript table block = (block ≤ block-end) × (block-end ≡ two / run) × (length table ≡ tableSize) × Low (narrow .modulus) table × Walked (opened s list symbols) len room (OneOf block (AtBlock s list run)) transcript₀ transcript true
@@ -74,9 +69,6 @@ returns c =
 add-block : tie.Need-add-block Inv-loop μ-loop
 add-block c = omega (arith, c .before .before .before .before .before .before .before .loop-test .taken, div-le-self (c .before .before .before .before .before .before .before .before .before .before .two-to .result) (c .before .before .before .before .before .before .before .before .before .run-of .result), c .before .before .before .before .before .before .before .before .before .before .two-to .ensures, shape-accepted _ (c .before .before .before .before .before .before .before .before .before .before .before .before .before .before .before .pre .0 .shape) .places-high)
 
-loop-less : tie.Need-loop-less Inv-loop μ-loop
-loop-less c = search needs
-
 loop-again : tie.Need-loop-again Inv-loop μ-loop
 loop-again c =
     let l = c .before .before .before .before .before .before .before .before .loop in
@@ -111,7 +103,7 @@ open-runs-spec =
     same-length
     returns
     add-block
-    loop-less
+    (λ c. search needs)
     loop-again
     same-length-2
     returns-2)

@@ -1,17 +1,10 @@
 -- `opening::walk` meets its contract. Assumes nothing.
-use Rattle.opening.proofs.Places.{listed-misfit, listed-whole, both-walked}
-use Rattle.shape.proofs.Accepted.{shape-accepted}
-use borrow.Author.Tests.{not-true, not-false}
-use native.Mathlib.Omega.{arith}
 use mathlib.Core.Path.{_∙_}
-use borrow.Author.Needs.{needs}
+use native.Mathlib.Omega.{arith}
+use borrow.Author.Tests.{not-true, not-false}
+use Rattle.opening.proofs.Places.{listed-misfit, both-walked}
 use Rattle.opening.proofs.walk.Statement.{statement}
 use Rattle.opening.proofs.walk.Tie as tie
-use Rattle.opening.proofs.walk.Reads as reads
-use Rattle.opening.proofs.walk.Lts as lts
-use Rattle.opening.proofs.all_data.Reads as all-data-reads
-use Rattle.opening.proofs.open_listed.Reads as open-listed-reads
-use Rattle.opening.proofs.open_runs.Reads as open-runs-reads
 
 open-listed-requires : tie.Need-open-listed-requires
 open-listed-requires c κs = (c .before .before .before .before .before .pre .0, c .before .before .before .before .before .pre .3, c .before .before .before .before .before .pre .4)
@@ -22,36 +15,18 @@ same-length c = c .before .before .before .open-listed .ensures .long
 returns : tie.Need-returns
 returns c = listed-misfit _ _ _ (c .before .before .before .before .before .before .before .before .before .pre .0) _ _ _ _ _ (not-true _ (c .if1 .taken)) (c .before .before .before .open-listed .ensures)
 
-all-data-requires : tie.Need-all-data-requires
-all-data-requires c κs = omega (arith, c .before .before .before .before .before .before .before .before .before .pre .0 .count, shape-accepted _ (c .before .before .before .before .before .before .before .before .before .pre .0 .shape) .k-low)
-
-same-length-2 : tie.Need-same-length-2
-same-length-2 c = c .before .before .before .before .before .open-listed .ensures .long
-
-returns-2 : tie.Need-returns-2
-returns-2 c = listed-whole _ _ _ (c .before .before .before .before .before .before .before .before .before .before .before .pre .0) (c .before .all-data .ensures (c .if2 .taken)) _ _ _ _ _ (not-false _ (c .before .before .if1 .left)) (c .before .before .before .before .before .open-listed .ensures)
-
 open-runs-requires : tie.Need-open-runs-requires
 open-runs-requires c κs =
-    let p = c .before .before .before .before .before .before .before .before .before .before .before .before .pre in
-    (p .0, p .1, p .2, p .3, omega (arith, p .4, c .before .before .before .before .before .before .open-listed .ensures .long))
+    let p = c .before .before .before .before .before .before .before .before .before .before .pre in
+    (p .0, p .1, p .2, p .3, omega (arith, p .4, c .before .before .before .before .open-listed .ensures .long))
 
-same-length-3 : tie.Need-same-length-3
-same-length-3 c = c .before .before .open-runs .ensures .long ∙ c .before .before .before .before .before .before .before .before .before .open-listed .ensures .long
+same-length-2 : tie.Need-same-length-2
+same-length-2 c = c .before .before .open-runs .ensures .long ∙ c .before .before .before .before .before .before .before .open-listed .ensures .long
 
-returns-3 : tie.Need-returns-3
-returns-3 c = both-walked _ _ _ (c .before .before .before .before .before .before .before .before .before .before .before .before .before .before .before .pre .0) _ _ _ _ _ _ _ (not-false _ (c .before .before .before .before .before .before .if1 .left)) (c .before .before .before .before .before .before .before .before .before .open-listed .ensures) (c .before .before .open-runs .ensures)
+returns-2 : tie.Need-returns-2
+returns-2 c = both-walked _ _ _ (c .before .before .before .before .before .before .before .before .before .before .before .before .before .pre .0) _ _ _ _ _ _ _ (not-false _ (c .before .before .before .before .if1 .left)) (c .before .before .before .before .before .before .before .open-listed .ensures) (c .before .before .open-runs .ensures)
 
 pub walk-spec : {M : Type 1} → statement M
 walk-spec =
     tie.close
-    (tie.spec
-    open-listed-requires
-    same-length
-    returns
-    all-data-requires
-    same-length-2
-    returns-2
-    open-runs-requires
-    same-length-3
-    returns-3)
+    (tie.spec open-listed-requires same-length returns open-runs-requires same-length-2 returns-2)

@@ -1,6 +1,4 @@
 -- `picking::looked_up` meets its contract. Assumes nothing.
-use mathlib.Core.Path.{_≡_}
-use native.Mathlib.Omega.{arith}
 use borrow.Author.Needs.{needs}
 use borrow.Author.Tests.{eq-eqb, ne-eqb}
 use Rattle.picking.specs.Picking.{lookedUp}
@@ -9,11 +7,11 @@ use Rattle.picking.proofs.looked_up.Tie as tie
 
 returns : tie.Need-returns
 unfolding lookedUp
-returns c = (rw (eq-eqb _ _ (c .if1 .taken)), c .before .pre)
+returns c = rw (eq-eqb _ _ (c .if1 .taken))
 
 returns-2 : tie.Need-returns-2
 unfolding lookedUp
-returns-2 c = (rw (ne-eqb _ _ (c .if1 .left)), omega arith)
+returns-2 c = rw (ne-eqb _ _ (c .if1 .left))
 
 pub looked-up-spec : {M : Type 1} → statement M
 looked-up-spec = tie.close (tie.spec (λ c. search needs) returns returns-2)
