@@ -52,7 +52,8 @@ pub record RowFits (len at : ℕ) (row : List ℕ) (fit : Bool) : Type 0 where
   pub each : fit ≡ true → (t : ℕ) → t < length row → dataFits len (at + t) (getD row t 0) ≡ true
   pub not-each : fit ≡ false → ((t : ℕ) → t < length row → dataFits len (at + t) (getD row t 0) ≡ true) → ⊥
 
--- whether the data symbols D e, for all e with Done e, may stand where they do; if so, those before `room` are stored. Nothing else is.
+-- whether all data symbols D e with Done e may stand where they do; if so, those before `room` are stored. Either way an element is as it was,
+-- or lies before `room` and is its data symbol.
 pub record Walked (D : ℕ → ℕ) (len room : ℕ) (Done : ℕ → Type 0) (before after : List ℕ) (fit : Bool) : Type 0 where
   pub long : length after ≡ length before
   pub others : (e : ℕ) → (getD after e 0 ≡ getD before e 0) ⊎ ((e < room) × (getD after e 0 ≡ D e))
