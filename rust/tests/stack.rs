@@ -48,7 +48,7 @@ impl Archive {
         with_little_stack("check", || self.shape.check(&self.nodes))
     }
 
-    /// The last k nodes, of which the first ones are worked out by solving.
+    /// The last k nodes, from which the first ones are worked out.
     fn last_nodes(&self) -> Vec<usize> {
         (self.shape.nodes - self.shape.data..self.shape.nodes).collect()
     }

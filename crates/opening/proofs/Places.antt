@@ -62,7 +62,7 @@ module _ (s : Shape) (list symbols : List ℕ) (given : Readable s list symbols)
       ∙ (unfold symbol in ap (λ z. getD (dataOf narrow s list symbols) z 0) (p .whole))
 
   -- a listed node's are handed in
-  pub opened-listed : (i j p : ℕ) → i < s .k → j < s .k → getD list j 0 ≡ i → p < size s → opened s list symbols (i * size s + p) ≡ getD symbols (j * size s + p) 0
+  opened-listed : (i j p : ℕ) → i < s .k → j < s .k → getD list j 0 ≡ i → p < size s → opened s list symbols (i * size s + p) ≡ getD symbols (j * size s + p) 0
   unfolding symbol
   opened-listed i j p h g e l =
       opened-symbol i p h l ∙ opened-restored narrow s list symbols whole (i * N + p) (digits-lt h l)
