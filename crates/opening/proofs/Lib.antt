@@ -1,5 +1,4 @@
 -- Laws of opening by multipliers, lowest first.
-pub mod Opening
 pub mod Fitting
 pub mod Walking
 pub mod Places

@@ -29,9 +29,9 @@ use Rattle.code.proofs.Accepted.{narrow-accepted}
 use Rattle.tables.specs.Tables.{tableSize, Table}
 use Rattle.filling.specs.Filling.{InRun, term, Summable, Summed}
 use Rattle.filling.proofs.Filling.{row-room}
-use Rattle.opening.specs.Opening.{factor, weighed}
+use Rattle.factors.specs.Factors.{factor, weighed}
 use Rattle.opening.specs.Steps.{Readable, opened, Factors, Walked, OneOf, OfListed, AtBlock, Missing, AllData, AllListed}
-use Rattle.opening.proofs.Opening.{factor-missing, opened-sum}
+use Rattle.factors.proofs.Factors.{factor-missing, opened-sum}
 use Rattle.opening.proofs.Walking.{walked-as, walked-then}
 
 module _ (s : Shape) (list symbols : List ℕ) (given : Readable s list symbols) where

@@ -1,3 +1,2 @@
--- Opening by multipliers.
-pub mod Opening
+-- What is promised of the functions inside opening.
 pub mod Steps

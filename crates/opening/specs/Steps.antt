@@ -16,7 +16,7 @@ use Rattle.code.specs.Archive.{dataOf}
 use Rattle.code.specs.Refusals.{dataRefusal}
 use Rattle.code.specs.Steps.{dataFits}
 use Rattle.filling.specs.Filling.{InRun}
-use Rattle.opening.specs.Opening.{factor, weighed}
+use Rattle.factors.specs.Factors.{factor, weighed}
 
 -- k nodes in a rising list, and their k × N symbols
 pub record Readable (s : Shape) (list symbols : List ℕ) : Type 0 where

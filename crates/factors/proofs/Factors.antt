@@ -29,7 +29,7 @@ use Rattle.code.proofs.Opened.{opened-column}
 use Rattle.multipliers.specs.Multipliers.{multiplier, unit}
 use Rattle.multipliers.proofs.Units.{unit-same, unit-other, unit-small, unit-picks}
 use Rattle.multipliers.proofs.Multipliers.{missing-sum}
-use Rattle.opening.specs.Opening.{factor, weighed, Opener}
+use Rattle.factors.specs.Factors.{factor, weighed, Opener}
 
 module _ (c : Code) (s : Shape) (list : List ℕ) (good : GoodCode c (s .n)) (up : rising 0 (s .n) list ≡ true) (count : length list ≡ s .k) where
   abbrev q : ℕ

@@ -1,0 +1,2 @@
+-- Laws of the factors of data symbols.
+pub mod Factors
