@@ -53,7 +53,7 @@ module _ (s : Shape) (list symbols : List ℕ) (len room : ℕ) (able : Openable
   long : length opened ≡ s .k * size s
   long = opened-length narrow s list symbols (able .given)
 
-  pub taken-length : length (take len (dataOf narrow s list symbols)) ≡ len
+  taken-length : length (take len (dataOf narrow s list symbols)) ≡ len
   taken-length = length-take-le len opened (omega (arith, long, able .fits))
 
   -- they are a transcript's then

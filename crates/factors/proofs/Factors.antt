@@ -58,7 +58,7 @@ module _ (c : Code) (s : Shape) (list : List ℕ) (good : GoodCode c (s .n)) (up
     unfolding factor
     factor-missing m j = cond-false _ _ (member i list) m
 
-    pub factor-small : (j : ℕ) → factor c (s .n) list a i j < c .modulus
+    factor-small : (j : ℕ) → factor c (s .n) list a i j < c .modulus
     factor-small j = go (member i list) refl
       where
         go : (b : Bool) → member i list ≡ b → factor c (s .n) list a i j < q

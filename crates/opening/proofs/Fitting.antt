@@ -1,5 +1,5 @@
 -- A row of data symbols may stand where it does: bytes within the length, and 0 beyond it.
-use mathlib.Core.Path.{_≡_, sym, ap, ap₂, _∙_}
+use mathlib.Core.Path.{_≡_, sym, ap₂, _∙_}
 use mathlib.Core.Logic.{_⊎_, inl, inr}
 use mathlib.Core.Bool.{Bool, true, false, not, _||_, true≢false}
 use mathlib.Core.List.{List}
@@ -8,18 +8,13 @@ use native.Mathlib.Omega.{arith}
 use borrow.Author.Tests.{not-true, not-false}
 use lib.ListN.{length, getD, take, drop, length-drop}
 use lib.Seq.{getD-take, getD-drop, length-take-le}
-use Rattle.lists.proofs.Tests.{neither, below-or-not, at-all-below}
+use Rattle.lists.proofs.Tests.{neither, below-or-not}
 use Rattle.shape.specs.Shape.{byteValues}
 use Rattle.shape.specs.Refusals.{symbolBad}
-use Rattle.shape.proofs.Accepted.{symbols-accepted}
+use Rattle.shape.proofs.Accepted.{symbols-accepted, symbols-low}
 use Rattle.code.specs.Steps.{dataFits}
 use Rattle.code.proofs.Opening.{byte-fits, fits-byte, zero-fits, fits-zero}
 use Rattle.opening.specs.Steps.{BeforeEnd, RowFits}
-
--- all are below a bound
-low-accepted : (bound : ℕ) (xs : List ℕ) → ((e : ℕ) → e < length xs → getD xs e 0 < bound) → symbolBad bound xs ≡ false
-unfolding symbolBad
-low-accepted bound xs h = ap not (at-all-below bound xs h)
 
 module _ (len at within : ℕ) (row : List ℕ) (w : BeforeEnd len at (length row) within) where
   abbrev front : List ℕ
@@ -55,11 +50,11 @@ module _ (len at within : ℕ) (row : List ℕ) (w : BeforeEnd len at (length ro
           zero-fits len (at + t) _ (w .behind t l h) (omega (arith, low))
 
       no-high : ((t : ℕ) → t < length row → dataFits len (at + t) (getD row t 0) ≡ true) → symbolBad byteValues front ≡ false
-      no-high all = low-accepted byteValues front (λ t h.
+      no-high all = symbols-low byteValues front (λ t h.
           let l : t < within = rw front-length at h in
           rw (getD-take within row t 0 l) (fits-byte len (at + t) _ (w .before t l) (all t (omega (arith, w .few)))))
 
       no-more : ((t : ℕ) → t < length row → dataFits len (at + t) (getD row t 0) ≡ true) → symbolBad 1 rest ≡ false
-      no-more all = low-accepted 1 rest (λ t h.
+      no-more all = symbols-low 1 rest (λ t h.
           let l : t < length row - within = rw rest-length at h in
           rw (rest-at t l) (omega (arith, fits-zero len (at + (within + t)) _ (w .behind (within + t) (omega arith) (omega arith)) (all (within + t) (omega arith)))))

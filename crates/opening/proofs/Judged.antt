@@ -1,5 +1,5 @@
 -- All data symbols judged with nothing stored, and then stored.
-use mathlib.Core.Path.{_≡_, refl, sym, _∙_, subst}
+use mathlib.Core.Path.{_≡_, refl, sym, ap, _∙_, subst}
 use mathlib.Core.Logic.{_⊎_, inl, inr}
 use mathlib.Core.Bool.{Bool, true, false}
 use mathlib.Core.List.{List}
@@ -32,7 +32,7 @@ readable s list symbols len room e =
     record { shape = w .shape; up = w .given .nodes; count = w .given .count; long = w .long; small = w .given .small }
 
 -- with no room nothing is stored
-pub judged-only : (D : ℕ → ℕ) (len : ℕ) (All : ℕ → Type 0) (before after : List ℕ) (fit : Bool) → Walked D len 0 All before after fit → after ≡ before
+judged-only : (D : ℕ → ℕ) (len : ℕ) (All : ℕ → Type 0) (before after : List ℕ) (fit : Bool) → Walked D len 0 All before after fit → after ≡ before
 judged-only D len All before after fit w = ext-getD 0 after before (w .long) (λ e h. go e (w .others e))
   where
     go : (e : ℕ) → (getD after e 0 ≡ getD before e 0) ⊎ ((e < 0) × (getD after e 0 ≡ D e)) → getD after e 0 ≡ getD before e 0
@@ -46,60 +46,59 @@ module _ (s : Shape) (list symbols before : List ℕ) (input : openInputRefusal 
   able : Openable s list symbols len len
   able = open-accepted s list symbols len len input
 
+  -- all data symbols may stand where they do
+  abbrev AllFit : Type 0
+  AllFit = (e : ℕ) → e < s .k * size s → dataFits len e (getD (dataOf narrow s list symbols) e 0) ≡ true
+
+  turned : (after : List ℕ) → (AllFit → ⊥) → after ≡ before → OpenedAll s list symbols before after (Refused NoTranscript)
+  turned after off e =
+      let seven = fit-not-all s list symbols len len able off in
+      record { long = ap length e; number = sym seven; bytes = e ∙ sym (afterwards-refused before _ NoTranscript _ (sym seven)) }
+
+  done : (after : List ℕ) → AllFit → length after ≡ length before → ((e : ℕ) → e < length before → getD after e 0 ≡ getD (dataOf narrow s list symbols) e 0)
+      → OpenedAll s list symbols before after Done
+  done after all long there =
+      let none = fit-all s list symbols len len able all in
+      record { long = long; number = sym none; bytes = opened-end s list symbols len len able after long there ∙ sym (afterwards-done before _ _ none) }
+
+  -- ---- walked
+
   same : (e : ℕ) → e < s .k * size s → opened s list symbols e ≡ getD (dataOf narrow s list symbols) e 0
   same = opened-data s list symbols (readable s list symbols len len input)
 
-  -- some may not stand where they do
   pub turned-back : (after : List ℕ) (fit : Bool) → fit ≡ false → Walked (opened s list symbols) (length before) 0 (AllData s) before after fit
       → OpenedAll s list symbols before after (Refused NoTranscript)
-  turned-back after fit off w =
-      let seven = fit-not-all s list symbols len len able (λ all. w .misfit off (λ e h. rw (same e h) (all e h))) in
-      record { long = w .long; number = sym seven; bytes = judged-only _ _ _ _ _ _ w ∙ sym (afterwards-refused before _ NoTranscript _ (sym seven)) }
+  turned-back after fit off w = turned after (λ all. w .misfit off (λ e h. rw (same e h) (all e h))) (judged-only _ _ _ _ _ _ w)
 
-  -- all may, and then they are stored
-  module _ (now after : List ℕ) (fit again : Bool) (on : fit ≡ true) (w : Walked (opened s list symbols) (length before) 0 (AllData s) before now fit)
-      (v : Walked (opened s list symbols) (length before) (length before) (AllData s) now after again) where
-    fine : dataRefusal narrow s list symbols len ≡ 0
-    fine = fit-all s list symbols len len able (λ e h. rw (← same e h) (w .fits on e h))
+  pub judged-stored : (now after : List ℕ) (fit again : Bool) → fit ≡ true → Walked (opened s list symbols) (length before) 0 (AllData s) before now fit
+      → Walked (opened s list symbols) (length before) (length before) (AllData s) now after again → OpenedAll s list symbols before after Done
+  judged-stored now after fit true on w v =
+      done after (λ e h. rw (← same e h) (w .fits on e h)) (v .long ∙ w .long)
+      (λ e h. let l : e < s .k * size s = omega (arith, able .fits) in v .there refl e l h ∙ same e l)
+  judged-stored now after fit false on w v = absurd (v .misfit refl (w .fits on))
 
-    also : (b : Bool) → again ≡ b → again ≡ true
-    also true e = e
-    also false e = absurd (v .misfit e (w .fits on))
+  -- ---- the data nodes themselves, copied
 
-    pub judged-stored : OpenedAll s list symbols before after Done
-    judged-stored = record {
-      long = v .long ∙ w .long;
-      number = sym fine;
-      bytes =
-          opened-end s list symbols len len able after (v .long ∙ w .long)
-          (λ e h. let l : e < s .k * size s = omega (arith, able .fits) in v .there (also again refl) e l h ∙ same e l)
-          ∙ sym (afterwards-done before _ _ fine);
-    }
-
-  -- the data nodes themselves, judged and copied
   module _ (last : AllListed list) where
     here : (e : ℕ) → e < s .k * size s → getD (dataOf narrow s list symbols) e 0 ≡ getD symbols e 0
     here = whole-data s list symbols (readable s list symbols len len input) last
 
-    pub copy-turned-back : (((t : ℕ) → t < length symbols → dataFits (length before) (0 + t) (getD symbols t 0) ≡ true) → ⊥) → OpenedAll s list symbols before before (Refused NoTranscript)
+    pub copy-turned-back : (((t : ℕ) → t < length symbols → dataFits (length before) (0 + t) (getD symbols t 0) ≡ true) → ⊥)
+        → OpenedAll s list symbols before before (Refused NoTranscript)
     copy-turned-back off =
-        let seven = fit-not-all s list symbols len len able (λ all. off (λ t h.
+        turned before
+        (λ all. off (λ t h.
         let l : t < s .k * size s = omega (arith, able .long) in
-        let z : 0 + t ≡ t = omega arith in rw (z, ← here t l) (all t l))) in
-        record { long = refl; number = sym seven; bytes = sym (afterwards-refused before _ NoTranscript _ (sym seven)) }
+        let z : 0 + t ≡ t = omega arith in rw (z, ← here t l) (all t l)))
+        refl
 
     pub data-copied : (after : List ℕ) → ((t : ℕ) → t < length symbols → dataFits (length before) (0 + t) (getD symbols t 0) ≡ true)
         → Stored 0 (length before) (element (take (length before) symbols)) before after → OpenedAll s list symbols before after Done
     data-copied after fit put =
-        let none = fit-all s list symbols len len able (λ e h. let z : 0 + e ≡ e = omega arith in rw (here e h) (rw z at (fit e (omega (arith, able .long))))) in
-        record {
-          long = put .long;
-          number = sym none;
-          bytes = opened-end s list symbols len len able after (put .long) (λ e h.
-              let z : 0 + e ≡ e = omega arith in
-              rw z at (put .there e h) ∙ getD-take len symbols e 0 h ∙ sym (here e (omega (arith, able .fits))))
-              ∙ sym (afterwards-done before _ _ none);
-        }
+        done after (λ e h. let z : 0 + e ≡ e = omega arith in rw (here e h) (rw z at (fit e (omega (arith, able .long))))) (put .long)
+        (λ e h.
+        let z : 0 + e ≡ e = omega arith in
+        rw z at (put .there e h) ∙ getD-take len symbols e 0 h ∙ sym (here e (omega (arith, able .fits))))
 
 -- where the input passed, that is what is promised
 pub opens-by : (s : Shape) (list symbols : List ℕ) (len : ℕ) (before after : List ℕ) (answer : Answer) → openInputRefusal narrow s list symbols len (length before) 0 ≡ 0

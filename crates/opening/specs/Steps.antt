@@ -87,7 +87,7 @@ Missing s list e = (e < s .k * size s) × (member (e / size s) list ≡ false)
 abbrev pub AllData : Shape → ℕ → Type 0
 AllData s e = e < s .k * size s
 
--- the last of the listed nodes is below their count: they are nodes 0, 1, ..
+-- the last of the listed nodes is below their count: they rise, and so are nodes 0, 1, ..
 abbrev pub AllListed : List ℕ → Type 0
 AllListed list = getD list (length list - 1) 0 < length list
 

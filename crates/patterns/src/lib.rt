@@ -17,8 +17,8 @@ ghost use Rattle.rows.specs.Rows.{mostPlaces, Low, Stored};
 ghost use Rattle.tables.specs.Tables.{tableSize, Marks};
 ghost use Rattle.patterns.specs.Patterns.{pattern, patterns, lengthened, Stands, Represented};
 
-// "Bit i of a is its binary digit worth 2^i."
-fn bit(a: usize, i: usize) -> usize
+// "Bit i of a is its binary digit worth 2^i." In two bytes, as rows of patterns are, so that a compiler works on eight at a time.
+pub fn bit(a: u16, i: usize) -> u16
     requires { ⌜ i < mostNodes ⌝ }
     ensures { λ r. ⌜ r ≡ bit i a ⌝ }
 {
@@ -99,21 +99,21 @@ pub fn represent(n: usize, m: usize, list: &[usize], marked: [bool; FLAGS], tabl
 }
 
 // One bit more in each of a row of patterns.
-fn lengthen(node: usize, a: usize, run: usize, row: &mut [usize; RUN])
+fn lengthen(node: usize, a: usize, run: usize, row: &mut [u16; RUN])
     requires { ⌜ (node < mostNodes) × (run ≤ mostPlaces) × (a + run ≤ 2 ^ mostNodes) × (length (now row) ≡ mostPlaces) × ((t : ℕ) → t < run → getD (now row) t 0 < 2 ^ mostNodes) ⌝ }
     ensures { λ _. ⌜ Stored 0 run (lengthened a node (now (row .entry))) (now (row .entry)) (now (row .exit)) ⌝ }
 {
     for t in 0..run {
-        row[t] = 2 * row[t] + bit(a + t, node);
+        row[t] = 2 * row[t] + bit((a + t) as u16, node);
     }
 }
 
 // The patterns of a, a + 1, ..
-pub fn patterns_of(n: usize, marked: [bool; FLAGS], a: usize, run: usize) -> [usize; RUN]
+pub fn patterns_of(n: usize, marked: [bool; FLAGS], a: usize, run: usize) -> [u16; RUN]
     requires { ⌜ (n ≤ mostNodes) × (run ≤ mostPlaces) × (a + run ≤ 2 ^ mostNodes) ⌝ }
     ensures { λ out. ⌜ (length out ≡ mostPlaces) × ((t : ℕ) → t < run → element out t ≡ pattern marked (a + t) n) ⌝ }
 {
-    let mut out = [0usize; RUN];
+    let mut out = [0u16; RUN];
     for node in 0..n {
         if marked[node] {
             continue;

@@ -37,7 +37,7 @@ module _ (n : ℕ) (high : n ≤ mostNodes) (a b : ℕ) (list : List ℕ) (up : 
   unfolding point
   same-point e h s = points-at narrow n a e h ∙ ap (λ x. cond (eqb x 0) (basePoint narrow e) (q - basePoint narrow e)) s ∙ sym (points-at narrow n b e h)
 
-  pub multiplier-by-bits : ((e : ℕ) → e < n → member e list ≡ false → bit e a ≡ bit e b) → bit (getD list j 0) a ≡ bit (getD list j 0) b
+  multiplier-by-bits : ((e : ℕ) → e < n → member e list ≡ false → bit e a ≡ bit e b) → bit (getD list j 0) a ≡ bit (getD list j 0) b
       → multiplier q (points narrow n a) list i j ≡ multiplier q (points narrow n b) list i j
   multiplier-by-bits others own =
       multiplier-ext q (points narrow n a) (points narrow n b) list i j (points-length narrow n a ∙ sym (points-length narrow n b))
@@ -64,7 +64,7 @@ module _ (n : ℕ) (high : n ≤ mostNodes) (a b : ℕ) (list : List ℕ) (up : 
       go (yes z) = rw (eq-eqb _ _ z, ne-eqb (bit e b) 0 (λ d. omega arith)) (sums (basePoint narrow e) (q - basePoint narrow e) (omega (arith, low)))
       go (no z) = rw (ne-eqb _ _ z, eq-eqb (bit e b) 0 (omega (arith, z))) (sums (q - basePoint narrow e) (basePoint narrow e) (omega (arith, low)))
 
-  pub multiplier-by-turned-bits : ((e : ℕ) → e < n → member e list ≡ false → bit e a + bit e b ≡ 1) → bit (getD list j 0) a + bit (getD list j 0) b ≡ 1
+  multiplier-by-turned-bits : ((e : ℕ) → e < n → member e list ≡ false → bit e a + bit e b ≡ 1) → bit (getD list j 0) a + bit (getD list j 0) b ≡ 1
       → multiplier q (points narrow n a) list i j ≡ multiplier q (points narrow n b) list i j
   multiplier-by-turned-bits others own =
       multiplier-opposite q (good .prime) (points narrow n a) (points narrow n b) (points-good narrow n good a) (points-good narrow n good b) list

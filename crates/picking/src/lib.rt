@@ -1,5 +1,6 @@
 // The multipliers of a run of places, picked from those of few a: by the patterns of the run's a, and where the bit of a listed node is 1 by
 // the opposite ones.
+use patterns::bit;
 use patterns::count;
 use patterns::patterns_of;
 use rows::RUN;
@@ -12,7 +13,6 @@ ghost use mathlib.Core.List.{List};
 ghost use Prim.Native.Nat.{ℕ, _+_, _*_, _^_, _<_, _≤_};
 ghost use lib.ListN.{length, getD};
 ghost use Rattle.lists.specs.Lists.{member, rising};
-ghost use Rattle.lists.specs.Digits.{bit};
 ghost use Rattle.shape.specs.Shape.{mostNodes};
 ghost use Rattle.code.specs.Code.{narrow};
 ghost use Rattle.rows.specs.Rows.{mostPlaces, Low, Stored};
@@ -22,14 +22,6 @@ ghost use Rattle.picking.specs.Picking.{lookedSize, lookedUp, lookedAt, 
 
 // A row of patterns for each node.
 const LOOKED: usize = MOST_NODES * RUN;
-
-// "Bit i of a is its binary digit worth 2^i." In two bytes, as the row of patterns is, so that a compiler works on eight at a time.
-fn bit(a: u16, i: usize) -> u16
-    requires { ⌜ i < mostNodes ⌝ }
-    ensures { λ r. ⌜ r ≡ bit i a ⌝ }
-{
-    (a >> i) % 2
-}
 
 // The pattern to look under, of those up to `last`: the opposite one where a bit is 1.
 fn looked_up(bit: u16, pattern: u16, last: u16) -> u16
@@ -44,7 +36,7 @@ fn look_up_row(
     node: usize,
     a: usize,
     run: usize,
-    picks: &[usize],
+    picks: &[u16],
     last: usize,
     at: usize,
     out: &mut [u16],
@@ -53,12 +45,12 @@ fn look_up_row(
     ensures { λ _. ⌜ Stored at run (lookedAt a node (now (picks .entry)) last) (now (out .entry)) (now (out .exit)) ⌝ }
 {
     for t in 0..run {
-        out[at + t] = looked_up(bit((a + t) as u16, node), picks[t] as u16, last as u16);
+        out[at + t] = looked_up(bit((a + t) as u16, node), picks[t], last as u16);
     }
 }
 
 // The same for each listed node, a row each.
-fn look_up_rows(a: usize, run: usize, list: &[usize], picks: &[usize], last: usize, out: &mut [u16])
+fn look_up_rows(a: usize, run: usize, list: &[usize], picks: &[u16], last: usize, out: &mut [u16])
     requires { ⌜ ((j : ℕ) → j < length (now list) → getD (now list) j 0 < mostNodes) × (length (now list) ≤ mostNodes) × (run ≤ mostPlaces) × (a + run ≤ 2 ^ mostNodes) × (run ≤ length (now picks)) × ((t : ℕ) → t < run → getD (now picks) t 0 ≤ last) × (last < mostPlaces) × (length (now out) ≡ lookedSize) × Low mostPlaces (now out) ⌝ }
     ensures { λ _. ⌜ LookedUp a run (now (list .entry)) (now (picks .entry)) last (length (now (list .entry))) (now (out .exit)) ⌝ }
 {

@@ -9,4 +9,4 @@ unfolding bit
 returns c = search needs
 
 pub bit-spec : {M : Type 1} → statement M
-bit-spec = tie.close (tie.spec (λ c. search needs) returns)
+bit-spec = tie.close (tie.spec (λ c. search needs) (λ c. search needs) returns)

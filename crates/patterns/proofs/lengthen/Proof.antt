@@ -59,6 +59,7 @@ lengthen-spec =
     (λ c. search needs)
     mul-row-2
     (λ c. search needs)
+    (λ c. search needs)
     (λ c κs. search needs)
     add-row
     (λ c. search needs)

@@ -24,10 +24,7 @@ cast-bit : tie.Need-cast-bit Inv-loop μ-loop
 cast-bit c = omega (arith, c .before .before .before .before .pre .1)
 
 cast-looked-up : tie.Need-cast-looked-up Inv-loop μ-loop
-cast-looked-up c = omega (arith, c .before .before .before .before .before .before .pre .3 (c .before .before .before .loop .t) (omega arith), c .before .before .before .before .before .before .pre .4)
-
-cast-looked-up-2 : tie.Need-cast-looked-up-2 Inv-loop μ-loop
-cast-looked-up-2 c = omega (arith, c .before .before .before .before .before .before .pre .4)
+cast-looked-up c = omega (arith, c .before .before .before .before .before .before .pre .4)
 
 looked-up-requires : tie.Need-looked-up-requires Inv-loop μ-loop
 looked-up-requires c κs = c .before .before .before .before .before .before .pre .3 (c .before .before .before .loop .t) (omega arith)
@@ -59,7 +56,6 @@ look-up-row-spec =
     (λ c. search needs)
     (λ c. search needs)
     cast-looked-up
-    cast-looked-up-2
     looked-up-requires
     (λ c. search needs)
     (λ c. search needs)
