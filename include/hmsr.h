@@ -10,7 +10,8 @@
  * hmsr_open, hmsr_first_step and hmsr_repair need less than 48 KB of stack, the other calls less than 16 KB, whatever N is.
  *
  * A call returns 0 where it did its work, and otherwise the number of the first cause for which it turned back, except where its
- * comment says so. Where it turned back, every buffer is as it was.
+ * comment says so. The causes are judged in the order 1, 2, 3, 4, 5, 7; cards and the plan have orders of their own. Where a call
+ * turned back, every buffer is as it was.
  *
  * From top to bottom: the version, the refusals and their texts, the sizes of buffers, and the calls. The calls are the library's; the
  * functions before them are C for C99 or later, or C++.
@@ -30,7 +31,7 @@ extern "C" {
 #define HMSR_VERSION_MINOR 1
 #define HMSR_VERSION_PATCH 0
 
-/* The refusals, that is, the causes for which calls turn back. The comments of the calls name them by their numbers. */
+/* The refusals, that is, the causes for which calls turn back. The comments of the calls name them by their numbers. There is no 8. */
 
 /* n outside 3 to 12, k outside 1 to n-2, or layers outside 1 to 15. */
 #define HMSR_BAD_SHAPE 1
@@ -54,9 +55,6 @@ extern "C" {
 /* Opening: the symbols are not those of a transcript of that length. */
 #define HMSR_NO_TRANSCRIPT 7
 
-/* Solving met a zero divisor (never happens). */
-#define HMSR_ZERO_DIVISOR 8
-
 /* A refusal's cause in words, on one line without a line end. 0 and numbers that are no refusal's have a fixed text of their own. */
 static inline const char *hmsr_refusal_text(size_t number) {
     switch (number) {
@@ -68,7 +66,6 @@ static inline const char *hmsr_refusal_text(size_t number) {
     case HMSR_BAD_SYMBOL: return "a symbol is above 256";
     case HMSR_MALFORMED: return "the card or the input is malformed";
     case HMSR_NO_TRANSCRIPT: return "the symbols are not those of a transcript of that length";
-    case HMSR_ZERO_DIVISOR: return "solving met a zero divisor (never happens)";
     default: return "not the number of a refusal";
     }
 }

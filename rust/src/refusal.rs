@@ -20,13 +20,11 @@ pub enum Refusal {
     Malformed = 6,
     /// The symbols are not those of a transcript of that length.
     NoTranscript = 7,
-    /// Solving met a zero divisor; proved never to happen.
-    ZeroDivisor = 8,
 }
 
 impl Refusal {
     /// All causes, by their numbers.
-    pub const ALL: [Refusal; 8] = [
+    pub const ALL: [Refusal; 7] = [
         Refusal::BadShape,
         Refusal::BadNodes,
         Refusal::PartBatch,
@@ -34,10 +32,9 @@ impl Refusal {
         Refusal::BadSymbol,
         Refusal::Malformed,
         Refusal::NoTranscript,
-        Refusal::ZeroDivisor,
     ];
 
-    /// The cause's number, 1 to 8.
+    /// The cause's number, 1 to 7.
     ///
     /// ```
     /// assert_eq!(hmsr::Refusal::PartBatch.number(), 3);
@@ -53,6 +50,7 @@ impl Refusal {
     /// use hmsr::Refusal;
     /// assert_eq!(Refusal::from_number(7), Some(Refusal::NoTranscript));
     /// assert_eq!(Refusal::from_number(0), None);
+    /// assert_eq!(Refusal::from_number(8), None);
     /// ```
     #[must_use]
     pub fn from_number(number: usize) -> Option<Refusal> {
@@ -70,7 +68,6 @@ impl fmt::Display for Refusal {
             Refusal::BadSymbol => "a symbol is above 256",
             Refusal::Malformed => "the card or the input is malformed",
             Refusal::NoTranscript => "the symbols are not those of a transcript of that length",
-            Refusal::ZeroDivisor => "solving met a zero divisor (never happens)",
         })
     }
 }

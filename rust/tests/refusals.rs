@@ -216,10 +216,11 @@ fn changed<T: Clone>(input: &T, changes: &[fn(&mut T)]) -> T {
     changed
 }
 
-/// "Elsewhere than in cards and the plan program, several causes yield the first by 1, 2, 3, 4, 5, 8, 7."
+/// "Elsewhere than in cards and the plan program, several causes yield the first by 1, 2, 3, 4, 5, .., 7" (8 between
+/// them is dropped by document 02 §11).
 fn in_order(causes: &[&[Cause]]) -> Vec<Cause> {
     let causes = causes.concat();
-    let ranks: Vec<_> = causes.iter().map(|cause| [1, 2, 3, 4, 5, 8, 7].iter().position(|n| *n == cause.1)).collect();
+    let ranks: Vec<_> = causes.iter().map(|cause| [1, 2, 3, 4, 5, 7].iter().position(|n| *n == cause.1)).collect();
     assert!(ranks.is_sorted());
     causes
 }

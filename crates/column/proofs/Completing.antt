@@ -1,23 +1,21 @@
 -- What the parts of `missing` and `complete` give together: the values at the other entries, and the whole column.
-use mathlib.Core.Path.{_≡_, refl, sym, ap, ap₂, _∙_}
-use mathlib.Core.Bool.{true, false}
-use mathlib.Core.List.{List, map}
-use Prim.Native.Nat.{ℕ, _+_, _-_, _*_, _%_, _^_, _<_}
+use mathlib.Core.Path.{_≡_, refl, sym, ap, _∙_}
+use mathlib.Core.Bool.{true}
+use mathlib.Core.List.{List}
+use Prim.Native.Nat.{ℕ, _-_, _*_, _%_, _^_, _<_}
 use native.Mathlib.Omega.{arith}
 use lib.ListN.{length, getD, take, length-map}
-use Rattle.lists.specs.Lists.{element, member, others, rising}
+use Rattle.lists.specs.Lists.{element, others, rising}
 use Rattle.lists.specs.Sums.{sum}
 use Rattle.lists.proofs.Tables.{map-at}
 use Rattle.lists.proofs.Sums.{sum-ext}
-use Rattle.lists.proofs.Members.{rises-rising, rising-below, member-of}
-use Rattle.lists.proofs.Others.{others-rise, others-length, others-at, others-apart}
-use Rattle.field.specs.Residues.{minus, solution}
+use Rattle.lists.proofs.Members.{rises-rising, member-of}
+use Rattle.lists.proofs.Others.{others-rise, others-length, others-apart}
+use Rattle.field.specs.Residues.{minus}
 use Rattle.field.proofs.Bridge.{minus-mod, solution-ext}
-use Rattle.column.specs.Column.{parity, listedSum, missing, completed}
-use Rattle.column.specs.Solving.{cell, powerOf, Vandermonde, Solves, Known, Missing, Scattered, Completes}
-use Rattle.column.specs.declared.Outcome.the-variants.{Solved}
-use Rattle.column.specs.declared.Solution.{Solution}
-use Rattle.column.proofs.Solved.{points-picked}
+use Rattle.column.specs.Column.{parity, listedSum, unknowns, missing, completed}
+use Rattle.column.specs.Solving.{cell, powerOf, Vandermonde, Solves, Known, Missing, Scattered}
+use Rattle.column.proofs.Solvable.{unknowns-solvable}
 use Rattle.column.proofs.Column.{completed-by}
 
 module _ (q : ℕ) (ps list values : List ℕ) (w : Known q ps list values) where
@@ -28,15 +26,15 @@ module _ (q : ℕ) (ps list values : List ℕ) (w : Known q ps list values) wher
   pub rest-length : length (others (length ps) list) ≡ length ps - length list
   rest-length = omega (arith, others-length (length ps) list (w .up))
 
-  module _ (r : ℕ) (r-is : r ≡ length (others (length ps) list)) (known want right : List ℕ) (wanted : List (List ℕ)) (s : Solution)
+  module _ (r : ℕ) (r-is : r ≡ length (others (length ps) list)) (known want right out : List ℕ) (wanted : List (List ℕ))
       (known-long : length known ≡ length list)
       (known-are : (j : ℕ) → j < length list → element known j ≡ element ps (element list j))
       (right-is : (t : ℕ) → t < r → element right t ≡ minus q 0 (parity q known values t))
       (want-are : (j : ℕ) → j < r → element want j ≡ element ps (element (others (length ps) list) j))
       (wanted-are : (j t : ℕ) → j < r → t < r → cell wanted j t ≡ powerOf q (element want j) t)
-      (solves : Solves q r wanted right s) where
+      (solves : Solves q r wanted right out) where
     abbrev xs : List ℕ
-    xs = map (λ i. getD ps i 0) rest
+    xs = unknowns ps list
 
     count : length xs ≡ r
     count = length-map rest _ ∙ sym r-is
@@ -55,18 +53,15 @@ module _ (q : ℕ) (ps list values : List ℕ) (w : Known q ps list values) wher
         ap (λ n. sum n (λ j. element known j ^ t * element values j) % q) known-long
         ∙ ap (λ x. x % q) (sum-ext (length list) _ _ (λ j l. ap (λ x. x ^ t * element values j) (known-are j l)))
 
-    pub missing-by : Missing q ps list values s
+    pub missing-by : Missing q ps list values out
     missing-by = record {
       long = solves .long;
-      never = both .0;
       found =
-          ap (λ n. take n (s .values)) (sym rest-length ∙ sym r-is) ∙ both .1
+          ap (λ n. take n out) (sym rest-length ∙ sym r-is ∙ sym count)
+          ∙ unknowns-solvable q (w .prime) ps (w .apart) list (w .up) .solved wanted right out equations (rw count solves)
           ∙ solution-ext q xs _ _ (λ t l. right-is t (omega (arith, count)) ∙ ap (minus q 0) (part t) ∙ minus-mod q 0 _)
           ∙ (unfold missing in refl);
     }
-      where
-        both : (s .outcome ≡ Solved) × (take r (s .values) ≡ solution q xs (element right))
-        both = solves .solved xs count (w .prime) (points-picked q ps (w .apart) 0 rest (others-rise (length ps) list (w .up))) equations
 
   -- the other entries rise
   pub rest-rising : rising 0 (length ps) (others (length ps) list) ≡ true

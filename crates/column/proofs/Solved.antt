@@ -2,7 +2,7 @@
 use mathlib.Core.Path.{_≡_, refl, sym, ap, ap₂, _∙_, fun-ext}
 use mathlib.Core.Logic.{_≢_}
 use mathlib.Core.List.{List, [], _∷_, map}
-use Prim.Native.Nat.{ℕ, zero, suc, _+_, _-_, _*_, _%_, _^_, _<_}
+use Prim.Native.Nat.{ℕ, zero, suc, _+_, _-_, _*_, _^_, _<_}
 use native.Mathlib.Nat.{add-suc, suc-add, add-zero}
 use native.Mathlib.Numerals.{add-one}
 use native.Mathlib.Omega.{arith}
@@ -12,15 +12,15 @@ use Rattle.lists.specs.Sums.{sum}
 use Rattle.lists.proofs.Sums.{sum-ext, sum-first}
 use Rattle.lists.proofs.Members.{Rises, rises-at, rises-distinct}
 use Rattle.lists.proofs.Tables.{map-at}
-use Rattle.field.specs.Residues.{Prime, minus, solution}
+use Rattle.field.specs.Residues.{Prime, solution}
 use Rattle.field.proofs.Ring.{Ring, Field, ring, sub-add, mul-one}
 use Rattle.field.proofs.Powers.{pow, pow-zero}
 use Rattle.field.proofs.Residues.{Residue, res-add, res-mul, res-pow, res-mod, zero-is, one-is}
 use Rattle.field.proofs.Fields.{pos, R}
 use Rattle.field.proofs.Vandermonde.{moment, moment-nil, moment-cons, Apart, Distinct, unique}
-use Rattle.field.proofs.Bridge.{r as residue, K as field, res-inj, small-same, minus-is, solution-is, solution-length, solution-small}
+use Rattle.field.proofs.Bridge.{r as residue, K as field, res-inj, small-same, minus-is, solution-is, solution-small}
 use Rattle.column.specs.Column.{Points}
-use Rattle.column.specs.Solving.{powerOf, less, eliminated, differences}
+use Rattle.column.specs.Solving.{powerOf, less, eliminated, differences, pivotAt}
 use Rattle.column.proofs.Elimination.{from, from-none, from-more, from-ext, rest, rest-none, differences as fieldDifferences, differences-none, differences-more, rest-powers, differences-nonzero, met}
 
 -- some of the points, at rising places
@@ -146,12 +146,9 @@ module _ (q : ℕ) (prime : Prime q) where
         (differences-is i x ∙ sym (mul-one (R q prime) _) ∙ ap (λ u. fieldDifferences (R q prime) X i (r x) ⊗ u) (sym (pow-zero (R q prime) (r x)))
         ∙ sym (rest-powers (R q prime) X (r x) i 0) ∙ sym (corner-is i x))
 
-    -- number 8 never comes
-    pub pivot-nonzero : (i : ℕ) → i < length xs → eliminated q (element xs) i (powerOf q (element xs i)) 0 ≢ 0
-    pivot-nonzero i h e =
-        differences-nonzero K X (X i) i differ
-        (sym (mul-one (R q prime) _) ∙ ap (λ u. fieldDifferences (R q prime) X i (X i) ⊗ u) (sym (pow-zero (R q prime) (X i)))
-        ∙ sym (rest-powers (R q prime) X (X i) i 0) ∙ sym (corner-is i (element xs i)) ∙ ap r e ∙ sym (zero-is q o))
+    -- a point differs from those before it
+    pub pivot-nonzero : (i : ℕ) → i < length xs → pivotAt q xs i ≢ 0
+    pivot-nonzero i h e = differences-nonzero K X (X i) i differ (sym (differences-is i (element xs i)) ∙ ap r e ∙ sym (zero-is q o))
       where
         differ : (l : ℕ) → l < i → X i ⊖ X l ≢ 𝟘
         differ l k d =

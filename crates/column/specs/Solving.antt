@@ -8,9 +8,6 @@ use Rattle.lists.specs.Lists.{element, rising, member}
 use Rattle.lists.specs.Sums.{sum}
 use Rattle.field.specs.Residues.{Prime, minus, solution}
 use Rattle.inverting.specs.Inverses.{Pivots}
-use Rattle.column.specs.declared.Outcome.{Outcome}
-use Rattle.column.specs.declared.Outcome.the-variants.{Solved, ZeroDivisor}
-use Rattle.column.specs.declared.Solution.{Solution}
 use Rattle.column.specs.Column.{Points, missing, completed}
 
 -- the most entries of a column: n + 1 of a first step
@@ -29,11 +26,12 @@ powerOf q x t = x ^ t % q
 pub record Vandermonde (q : ℕ) (points : List ℕ) (powers : List (List ℕ)) : Type 0 where
   pub power : (j t : ℕ) → j < length points → t < length points → cell powers j t ≡ powerOf q (element points j) t
 
--- the Vandermonde equations of distinct points are solved, and the values are the solution
-pub record Solves (q r : ℕ) (powers : List (List ℕ)) (right : List ℕ) (s : Solution) : Type 0 where
-  pub long : length (s .values) ≡ mostEntries
+-- The values that `solve` gives: for the Vandermonde equations of points that differ, modulo a prime, their solution. For any other
+-- equations the values are free.
+pub record Solves (q r : ℕ) (powers : List (List ℕ)) (right values : List ℕ) : Type 0 where
+  pub long : length values ≡ mostEntries
   pub solved : (points : List ℕ) → length points ≡ r → Prime q → Points q points → Vandermonde q points powers
-      → (s .outcome ≡ Solved) × (take r (s .values) ≡ solution q points (element right))
+      → take r values ≡ solution q points (element right)
 
 -- what `complete` is given: a prime, distinct points, a rising list of entries and a value for each of them
 pub record Known (q : ℕ) (points list values : List ℕ) : Type 0 where
@@ -43,15 +41,13 @@ pub record Known (q : ℕ) (points list values : List ℕ) : Type 0 where
   pub up : rising 0 (length points) list ≡ true
   pub each : length values ≡ length list
 
--- no zero divisor, and the values at the other entries
-pub record Missing (q : ℕ) (points list values : List ℕ) (s : Solution) : Type 0 where
-  pub long : length (s .values) ≡ mostEntries
-  pub never : s .outcome ≡ Solved
-  pub found : take (length points - length list) (s .values) ≡ missing q points list (element values)
+-- the values at the other entries
+pub record Missing (q : ℕ) (points list values out : List ℕ) : Type 0 where
+  pub long : length out ≡ mostEntries
+  pub found : take (length points - length list) out ≡ missing q points list (element values)
 
--- no zero divisor, and the whole column
-pub record Completes (q : ℕ) (points list values column : List ℕ) (outcome : Outcome) : Type 0 where
-  pub never : outcome ≡ Solved
+-- the whole column
+pub record Completes (q : ℕ) (points list values column : List ℕ) : Type 0 where
   pub whole : column ≡ completed q points list (element values)
 
 -- ---- the steps inside
@@ -88,10 +84,9 @@ pub record Meets (q r : ℕ) (triangle : List (List ℕ)) (right values : List �
   pub met : sum (r - i) (term (rowOf triangle i) values i) % q ≡ element right i % q
 
 -- back substitution in such equations
-pub record Substituted (q r : ℕ) (triangle : List (List ℕ)) (right : List ℕ) (s : Solution) : Type 0 where
-  pub long : length (s .values) ≡ mostEntries
-  pub stopped : s .outcome ≡ ZeroDivisor → (i : ℕ) × (i < r) × (cell triangle i i ≡ 0)
-  pub meets : Pivots q r (pivot triangle) → s .outcome ≡ Solved → (i : ℕ) → i < r → Meets q r triangle right (s .values) i
+pub record Substituted (q r : ℕ) (triangle : List (List ℕ)) (right values : List ℕ) : Type 0 where
+  pub long : length values ≡ mostEntries
+  pub meets : Pivots q r (pivot triangle) → (i : ℕ) → i < r → Meets q r triangle right values i
 
 -- the sum of an equation's terms, and the terms of the next equation
 pub record Advanced (q : ℕ) (points before after : List ℕ) (total : ℕ) : Type 0 where
@@ -104,3 +99,17 @@ pub record Scattered (list values before after : List ℕ) : Type 0 where
   pub long : length after ≡ length before
   pub listed : (j : ℕ) → j < length list → element after (element list j) ≡ element values j
   pub unlisted : (i : ℕ) → member i list ≡ false → element after i ≡ element before i
+
+-- ---- one set of equations (document 02 §11)
+
+-- pivot i of `solve`: what the points before it leave of the factor of unknown i in equation i
+abbrev pub pivotAt : ℕ → List ℕ → ℕ → ℕ
+pivotAt q points i = differences q (element points) i (element points i)
+
+-- "All points in one set of equations differ", and no pivot of `solve` is 0. The symbols stand in the right sides alone: whatever these are,
+-- the values that `solve` promises are the solution.
+pub record Solvable (q : ℕ) (points : List ℕ) : Type 0 where
+  pub differ : Points q points
+  pub pivots : Pivots q (length points) (pivotAt q points)
+  pub solved : (powers : List (List ℕ)) (right values : List ℕ) → Vandermonde q points powers → Solves q (length points) powers right values
+      → take (length points) values ≡ solution q points (element right)

@@ -1,7 +1,5 @@
 // The column that meets the parity equations, from the values at some of its entries.
 use column::ENTRIES;
-use column::Outcome;
-use column::Solution;
 use column::parity;
 use column::solve;
 use field::multiply;
@@ -98,9 +96,15 @@ fn scatter(list: &[usize], values: &[u32], column: &mut [u32])
 }
 
 // The values at the unknown entries, which are all but the listed.
-fn missing(q: u32, points: &[u32], list: &[usize], unknown: &[usize], values: &[u32]) -> Solution
+fn missing(
+    q: u32,
+    points: &[u32],
+    list: &[usize],
+    unknown: &[usize],
+    values: &[u32],
+) -> [u32; ENTRIES]
     requires { ⌜ Known q (now points) (now list) (now values) × (now unknown ≡ others (length (now points)) (now list)) ⌝ }
-    ensures { λ s. ⌜ Missing q (now (points .entry)) (now (list .entry)) (now (values .entry)) s ⌝ }
+    ensures { λ out. ⌜ Missing q (now (points .entry)) (now (list .entry)) (now (values .entry)) out ⌝ }
 {
     let r = unknown.len();
     let known = gathered(points, list);
@@ -109,25 +113,13 @@ fn missing(q: u32, points: &[u32], list: &[usize], unknown: &[usize], values: &[
 }
 
 // The column that has these values at the listed entries and meets as many parity equations as there are other entries.
-pub fn complete(
-    q: u32,
-    points: &[u32],
-    list: &[usize],
-    values: &[u32],
-    column: &mut [u32],
-) -> Outcome
+pub fn complete(q: u32, points: &[u32], list: &[usize], values: &[u32], column: &mut [u32])
     requires { ⌜ Known q (now points) (now list) (now values) × (length (now column) ≡ length (now points)) ⌝ }
-    ensures { λ o. ⌜ Completes q (now (points .entry)) (now (list .entry)) (now (values .entry)) (now (column .exit)) o ⌝ }
+    ensures { λ _. ⌜ Completes q (now (points .entry)) (now (list .entry)) (now (values .entry)) (now (column .exit)) ⌝ }
 {
     let r = points.len() - list.len();
     let unknown = others(points.len(), list);
-    let solution = missing(q, points, list, &unknown[..r], values);
-    let outcome = solution.outcome;
-    let found = solution.values;
-    let Outcome::Solved = outcome else {
-        return Outcome::ZeroDivisor;
-    };
+    let found = missing(q, points, list, &unknown[..r], values);
     scatter(list, values, column);
     scatter(&unknown[..r], &found[..r], column);
-    Outcome::Solved
 }

@@ -3,7 +3,6 @@ use classes::Layout;
 use classes::class_size;
 use classes::members_of;
 use classes::rank_class;
-use column::Outcome;
 use rows::RUN;
 use rows::run_from;
 use solving::gather;
@@ -103,10 +102,10 @@ pub fn first_into(
     messages: &[u16],
     pairs: &mut [u16],
     sums: &mut [u16],
-) -> Outcome
+)
     requires { ⌜ (Ready (now dead) g) × (Helped (g .shape) (now dead) (now helpers) u (now messages)) ⌝ }
     requires { ⌜ (length (now pairs) ≡ 2 * messageSize (g .shape) (now dead)) × (length (now sums) ≡ (length (now dead) - 1) * messageSize (g .shape) (now dead)) ⌝ }
-    ensures { λ r. ⌜ FirstDone (g .shape) (now (dead .entry)) (now (helpers .entry)) u (now (messages .entry)) (now (pairs .exit)) (now (sums .exit)) r ⌝ }
+    ensures { λ _. ⌜ FirstDone (g .shape) (now (dead .entry)) (now (helpers .entry)) u (now (messages .entry)) (now (pairs .exit)) (now (sums .exit)) ⌝ }
 {
     let class = members_of(g, dead, rank_class(g, dead, u));
     let size = class_size(g, dead);
@@ -130,5 +129,4 @@ pub fn first_into(
         );
         first += run;
     }
-    Outcome::Solved
 }

@@ -14,7 +14,6 @@ use Rattle.lists.proofs.Tables.{tabulate-at, is-tabulate}
 use Rattle.lists.proofs.Members.{at-position, member-of}
 use Rattle.lists.proofs.Flats.{flat-length, flat-at, flat-piece, piece-at}
 use Rattle.lists.proofs.Places.{Place, place-of}
-use Rattle.column.specs.declared.Outcome.{Outcome}
 use Rattle.shape.specs.declared.Shape.{Shape}
 use Rattle.shape.specs.Shape.{size}
 use Rattle.rows.specs.Rows.{Low}
@@ -115,7 +114,7 @@ module _ (s : Shape) (dead helpers nodes wire₀ W₁ : List ℕ) (A : Accepted 
     };
   }
 
-  module _ (N₁ W₂ : List ℕ) (o : Outcome) (E : Exchanged s dead helpers nodes N₁ W₁ W₂ o) where
+  module _ (N₁ W₂ : List ℕ) (E : Exchanged s dead helpers nodes N₁ W₁ W₂) where
     -- ---- the wire
 
     sender-length : (v j : ℕ) → length (fromSender narrow s dead helpers nodes v j) ≡ M

@@ -4,7 +4,7 @@ use mathlib.Core.List.{List}
 use Prim.Native.Nat.{ℕ, zero, suc, _<_}
 use native.Mathlib.Omega.{arith}
 use Rattle.shape.specs.declared.Refusal.{Refusal}
-use Rattle.shape.specs.declared.Refusal.the-variants.{BadShape, BadNodes, PartBatch, WrongLength, BadSymbol, Malformed, NoTranscript, ZeroDivisor}
+use Rattle.shape.specs.declared.Refusal.the-variants.{BadShape, BadNodes, PartBatch, WrongLength, BadSymbol, Malformed, NoTranscript}
 use Rattle.shape.specs.Refusals.{numberOf, afterwards}
 
 pub number-positive : (r : Refusal) → 0 < numberOf r
@@ -15,7 +15,6 @@ number-positive WrongLength = omega arith
 number-positive BadSymbol = omega arith
 number-positive Malformed = omega arith
 number-positive NoTranscript = omega arith
-number-positive ZeroDivisor = omega arith
 
 -- a buffer when the call did its work, and when it turned back with a cause
 module _ (before made : List ℕ) where

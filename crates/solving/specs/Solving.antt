@@ -8,8 +8,6 @@ use lib.Dec.{eqb}
 use lib.ListN.{length, getD}
 use Rattle.lists.specs.Lists.{element, member, rising}
 use Rattle.lists.specs.Sums.{sum}
-use Rattle.column.specs.declared.Outcome.{Outcome}
-use Rattle.column.specs.declared.Outcome.the-variants.{Solved}
 use Rattle.shape.specs.declared.Shape.{Shape}
 use Rattle.shape.specs.Shape.{mostNodes}
 use Rattle.code.specs.Code.{narrow, morePoints}
@@ -37,9 +35,8 @@ pub record Helped (s : Shape) (dead helpers : List ℕ) (u : ℕ) (messages : Li
   pub long : length messages ≡ (s .k + 1) * messageSize s dead
   pub below : (j x : ℕ) → j < s .k + 1 → x < messageSize s dead → getD messages (j * messageSize s dead + x) 0 < narrow .modulus
 
--- no zero divisor, the own pairs, and the messages of sums
-pub record FirstDone (s : Shape) (dead helpers : List ℕ) (u : ℕ) (messages pairs sums : List ℕ) (outcome : Outcome) : Type 0 where
-  pub never : outcome ≡ Solved
+-- the own pairs, and the messages of sums
+pub record FirstDone (s : Shape) (dead helpers : List ℕ) (u : ℕ) (messages pairs sums : List ℕ) : Type 0 where
   pub own : pairs ≡ ownPairs narrow s dead helpers u messages
   pub sent : sums ≡ exchanges narrow s dead helpers u messages
 

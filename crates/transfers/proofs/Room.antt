@@ -13,7 +13,7 @@ use Rattle.lists.proofs.Members.{rising-below}
 use Rattle.lists.proofs.Writing.{Writing, writing-all, writing-room}
 use Rattle.shape.specs.declared.Shape.{Shape}
 use Rattle.shape.specs.declared.Refusal.{Refusal}
-use Rattle.shape.specs.declared.Refusal.the-variants.{BadShape, BadNodes, PartBatch, WrongLength, BadSymbol, Malformed, NoTranscript, ZeroDivisor}
+use Rattle.shape.specs.declared.Refusal.the-variants.{BadShape, BadNodes, PartBatch, WrongLength, BadSymbol, Malformed, NoTranscript}
 use Rattle.shape.specs.Shape.{mostNodes, mostLayers, size, within}
 use Rattle.shape.specs.Refusals.{numberOf, refuse, shapeBad, repairBad, layersBad}
 use Rattle.shape.proofs.Accepted.{passed, Shaped, shape-accepted, Repairable, repair-accepted}
@@ -185,7 +185,6 @@ number-small WrongLength = omega arith
 number-small BadSymbol = omega arith
 number-small Malformed = omega arith
 number-small NoTranscript = omega arith
-number-small ZeroDivisor = omega arith
 
 refuse-small : (cause : Bool) (number rest : ℕ) → number < 10 → rest < 10 → refuse cause number rest < 10
 refuse-small true number rest h l = h

@@ -9,8 +9,6 @@ use native.Mathlib.Omega.{arith}
 use borrow.Rule.Slice.PartMut.{putMid}
 use lib.ListN.{length, getD, take}
 use Rattle.lists.specs.Lists.{piece}
-use Rattle.column.specs.declared.Outcome.{Outcome}
-use Rattle.column.specs.declared.Outcome.the-variants.{Solved}
 use Rattle.shape.specs.declared.Shape.{Shape}
 use Rattle.shape.specs.Shape.{size}
 use Rattle.code.specs.Code.{narrow}
@@ -60,10 +58,10 @@ module _ (s : Shape) (dead helpers : List ℕ) where
     apart : (t : ℕ) → t < u → t < length dead → node dead t ≢ node dead u
     apart t k m = node-own D t u m l (λ e. omega arith)
 
-    pub exchanging-more : (nodes₀ nodes wire₀ wire p after : List ℕ) (o : Outcome) → length nodes₀ ≡ s .n * size s → inwards s dead ≤ length wire₀ → length p ≡ size s
-        → Exchanging u nodes₀ nodes wire₀ wire → FirstOnWire s dead helpers u p wire after o
+    pub exchanging-more : (nodes₀ nodes wire₀ wire p after : List ℕ) → length nodes₀ ≡ s .n * size s → inwards s dead ≤ length wire₀ → length p ≡ size s
+        → Exchanging u nodes₀ nodes wire₀ wire → FirstOnWire s dead helpers u p wire after
         → Exchanging (u + 1) nodes₀ (putMid (node dead u * size s) (node dead u * size s + size s - node dead u * size s) nodes p) wire₀ after
-    exchanging-more nodes₀ nodes wire₀ wire p after o all room long E F = record {
+    exchanging-more nodes₀ nodes wire₀ wire p after all room long E F = record {
       nodes-long = put-piece-length (s .n) N (node dead u) nodes p i-low whole long ∙ E .nodes-long;
       long = F .sent .long ∙ E .long;
       head = F .sent .head ∙ E .head;
@@ -89,9 +87,8 @@ module _ (s : Shape) (dead helpers : List ℕ) where
         sums t v y k m n d q (no e) =
             F .sent .rest (slotOf true h t v * M + y) (λ w x a b c z. e (sym (senders-apart h M u w x t v y l a b m n d c q z))) ∙ E .each t v y (omega arith) m n d q
 
-  pub exchanging-end : (u : ℕ) (nodes₀ nodes wire₀ wire : List ℕ) → u ≡ length dead → Exchanging u nodes₀ nodes wire₀ wire → Exchanged s dead helpers nodes₀ nodes wire₀ wire Solved
+  pub exchanging-end : (u : ℕ) (nodes₀ nodes wire₀ wire : List ℕ) → u ≡ length dead → Exchanging u nodes₀ nodes wire₀ wire → Exchanged s dead helpers nodes₀ nodes wire₀ wire
   exchanging-end u nodes₀ nodes wire₀ wire e E = record {
-    never = refl;
     nodes-long = E .nodes-long;
     own = λ t k. E .own t (omega arith) k;
     kept = λ i k d. E .kept i k (λ t a b. d t b);

@@ -6,8 +6,6 @@ use Prim.Native.Nat.{ℕ, _+_, _*_, _-_, _≤_, _<_}
 use lib.Dec.{eqb}
 use lib.ListN.{length, getD, take, drop}
 use Rattle.lists.specs.Lists.{element, flat, piece}
-use Rattle.column.specs.declared.Outcome.{Outcome}
-use Rattle.column.specs.declared.Outcome.the-variants.{Solved}
 use Rattle.shape.specs.declared.Shape.{Shape}
 use Rattle.shape.specs.Shape.{size}
 use Rattle.rows.specs.Rows.{Low}
@@ -68,14 +66,12 @@ pub record OnWire (s : Shape) (dead helpers : List ℕ) (u : ℕ) (Done : ℕ �
   pub sent : HandedOut s dead helpers u (toRank s dead u wire) true Done (drop (inwards s dead) wire) (drop (inwards s dead) wire-after)
 
 -- rank u's first step: its own pairs at their places in its node, its sums on the wire
-pub record FirstOnWire (s : Shape) (dead helpers : List ℕ) (u : ℕ) (part before after : List ℕ) (outcome : Outcome) : Type 0 where
-  pub never : outcome ≡ Solved
+pub record FirstOnWire (s : Shape) (dead helpers : List ℕ) (u : ℕ) (part before after : List ℕ) : Type 0 where
   pub own : Paired s dead u (ownPairs narrow s dead helpers u (toRank s dead u before)) part
   pub sent : Sent s dead helpers u before after
 
 -- every rank's first step
-pub record Exchanged (s : Shape) (dead helpers : List ℕ) (nodes nodes-after wire wire-after : List ℕ) (outcome : Outcome) : Type 0 where
-  pub never : outcome ≡ Solved
+pub record Exchanged (s : Shape) (dead helpers : List ℕ) (nodes nodes-after wire wire-after : List ℕ) : Type 0 where
   pub nodes-long : length nodes-after ≡ length nodes
   pub own : (u : ℕ) → u < length dead → Paired s dead u (ownPairs narrow s dead helpers u (toRank s dead u wire)) (piece (size s) (node dead u) nodes-after)
   pub kept : (i : ℕ) → i < s .n → ((u : ℕ) → u < length dead → node dead u ≡ i → ⊥) → piece (size s) i nodes-after ≡ piece (size s) i nodes

@@ -4,7 +4,6 @@ use classes::class_size;
 use classes::members_of;
 use classes::rank_class;
 use classes::turn_of;
-use column::Outcome;
 use rows::RUN;
 use rows::run_from;
 use shape::size;
@@ -197,9 +196,9 @@ fn first_on_wire(
     u: usize,
     part: &mut [u16],
     wire: &mut [u16],
-) -> Outcome
+)
     requires { ⌜ (Ready (now dead) g) × (u < length (now dead)) × (told ≡ inward (g .shape) (now dead)) × (length (now part) ≡ size (g .shape)) × (Wired (g .shape) (now dead) (now helpers) (now wire)) ⌝ }
-    ensures { λ r. ⌜ FirstOnWire (g .shape) (now (dead .entry)) (now (helpers .entry)) u (now (part .exit)) (now (wire .entry)) (now (wire .exit)) r ⌝ }
+    ensures { λ _. ⌜ FirstOnWire (g .shape) (now (dead .entry)) (now (helpers .entry)) u (now (part .exit)) (now (wire .entry)) (now (wire .exit)) ⌝ }
 {
     let class = members_of(g, dead, rank_class(g, dead, u));
     let count = class_size(g, dead);
@@ -227,7 +226,6 @@ fn first_on_wire(
         );
         first += run;
     }
-    Outcome::Solved
 }
 
 // Every rank's first step.
@@ -238,21 +236,17 @@ pub fn exchange(
     told: usize,
     nodes: &mut [u16],
     wire: &mut [u16],
-) -> Outcome
+)
     requires { ⌜ (Ready (now dead) g) × (told ≡ inward (g .shape) (now dead)) × (length (now nodes) ≡ g .shape .n * size (g .shape)) × (Wired (g .shape) (now dead) (now helpers) (now wire)) ⌝ }
-    ensures { λ r. ⌜ Exchanged (g .shape) (now (dead .entry)) (now (helpers .entry)) (now (nodes .entry)) (now (nodes .exit)) (now (wire .entry)) (now (wire .exit)) r ⌝ }
+    ensures { λ _. ⌜ Exchanged (g .shape) (now (dead .entry)) (now (helpers .entry)) (now (nodes .entry)) (now (nodes .exit)) (now (wire .entry)) (now (wire .exit)) ⌝ }
 {
     let full = size(g.shape);
     let ranks = dead.len();
     for u in 0..ranks {
         let at = dead[u] * full;
         let end = at + full;
-        let outcome = first_on_wire(g, dead, helpers, told, u, &mut nodes[at..end], wire);
-        let Outcome::Solved = outcome else {
-            return Outcome::ZeroDivisor;
-        };
+        first_on_wire(g, dead, helpers, told, u, &mut nodes[at..end], wire);
     }
-    Outcome::Solved
 }
 
 // Every rank's second step, from its own pairs at their places and its messages on the wire.

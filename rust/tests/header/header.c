@@ -17,7 +17,7 @@ static void print_constants(void) {
     printf("%s %d.%d.%d\n", HMSR_VERSION, HMSR_VERSION_MAJOR, HMSR_VERSION_MINOR, HMSR_VERSION_PATCH);
     printf("BadShape %d\nBadNodes %d\nPartBatch %d\n", HMSR_BAD_SHAPE, HMSR_BAD_NODES, HMSR_PART_BATCH);
     printf("WrongLength %d\nBadSymbol %d\nMalformed %d\n", HMSR_WRONG_LENGTH, HMSR_BAD_SYMBOL, HMSR_MALFORMED);
-    printf("NoTranscript %d\nZeroDivisor %d\n", HMSR_NO_TRANSCRIPT, HMSR_ZERO_DIVISOR);
+    printf("NoTranscript %d\n", HMSR_NO_TRANSCRIPT);
     printf("%d %d\n", HMSR_HEADER, HMSR_PLAN_TEXT);
 }
 

@@ -19,7 +19,7 @@ pub fn write(shape: Shape, transcript: &[u8], nodes_length: usize) -> Result<Vec
     let mut data: Vec<u16> = transcript.iter().map(|&byte| u16::from(byte)).collect();
     data.resize(shape.capacity(), 0);
     let list: Vec<usize> = (0..shape.k).collect();
-    restored(shape, &list, &data)
+    Ok(restored(shape, &list, &data))
 }
 
 /// None if sound, otherwise the layer, a and t of the first unmet equation.
@@ -57,11 +57,11 @@ pub fn restore(shape: Shape, list: &[usize], symbols: &[u16], nodes_length: usiz
     judge_list(shape, list)?;
     judge_lengths(&[(symbols.len(), shape.capacity()), (nodes_length, shape.n * shape.symbols())])?;
     judge_symbols(symbols)?;
-    restored(shape, list, symbols)
+    Ok(restored(shape, list, symbols))
 }
 
 /// All nodes from the listed ones, place by place.
-fn restored(shape: Shape, list: &[usize], symbols: &[u16]) -> Result<Vec<u16>, Number> {
+fn restored(shape: Shape, list: &[usize], symbols: &[u16]) -> Vec<u16> {
     let size = shape.symbols();
     let missing: Vec<usize> = (0..shape.n).filter(|node| !list.contains(node)).collect();
     let mut nodes = vec![0; shape.n * size];
@@ -74,12 +74,12 @@ fn restored(shape: Shape, list: &[usize], symbols: &[u16]) -> Result<Vec<u16>, N
             nodes[node * size + place] = symbol;
         }
         let unknown: Vec<u32> = missing.iter().map(|&node| point(node, a)).collect();
-        let values = solve_parity(&known, &unknown).ok_or(8usize)?;
+        let values = solve_parity(&known, &unknown);
         for (&node, &value) in missing.iter().zip(&values) {
             nodes[node * size + place] = value as u16;
         }
     }
-    Ok(nodes)
+    nodes
 }
 
 pub fn open(
@@ -90,7 +90,7 @@ pub fn open(
     judge_transcript(shape, length)?;
     judge_lengths(&[(symbols.len(), shape.capacity()), (transcript_length, length)])?;
     judge_symbols(symbols)?;
-    let nodes = restored(shape, list, symbols)?;
+    let nodes = restored(shape, list, symbols);
     let (within, rest) = nodes[..shape.capacity()].split_at(length);
     if rest.iter().any(|&symbol| symbol != 0) {
         return Err(7);

@@ -30,17 +30,18 @@ pub fn power(mut base: u32, mut exponent: u32) -> u32 {
 }
 
 /// "Inverses are powers with exponent 255."
-pub fn inverse(x: u32) -> Option<u32> {
-    (x != 0).then(|| power(x, MODULUS - 2))
+pub fn inverse(x: u32) -> u32 {
+    power(x, MODULUS - 2)
 }
 
-/// The solution of the equations whose rows are coefficients and then the right-hand side.
-pub fn solve(mut rows: Vec<Vec<u32>>) -> Option<Vec<u32>> {
+/// The solution of the equations whose rows are coefficients and then the right-hand side. "All points in one set of
+/// equations differ": a column without a pivot is a fault.
+pub fn solve(mut rows: Vec<Vec<u32>>) -> Vec<u32> {
     let size = rows.len();
     for column in 0..size {
-        let pivot = (column..size).find(|&row| rows[row][column] != 0)?;
+        let pivot = (column..size).find(|&row| rows[row][column] != 0).expect("all points differ");
         rows.swap(column, pivot);
-        let scale = inverse(rows[column][column])?;
+        let scale = inverse(rows[column][column]);
         for entry in &mut rows[column] {
             *entry = multiply(*entry, scale);
         }
@@ -54,12 +55,12 @@ pub fn solve(mut rows: Vec<Vec<u32>>) -> Option<Vec<u32>> {
             }
         }
     }
-    Some(rows.iter().map(|row| row[size]).collect())
+    rows.iter().map(|row| row[size]).collect()
 }
 
 /// The values at the unknown points that make the first parity equations true, as many equations as
 /// there are unknowns, where the known points carry the values beside them.
-pub fn solve_parity(known: &[(u32, u32)], unknown: &[u32]) -> Option<Vec<u32>> {
+pub fn solve_parity(known: &[(u32, u32)], unknown: &[u32]) -> Vec<u32> {
     let mut coefficients = vec![1; unknown.len()];
     let mut terms: Vec<u32> = known.iter().map(|&(_, value)| value).collect();
     let mut rows = Vec::new();

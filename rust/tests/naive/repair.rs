@@ -81,7 +81,7 @@ impl<'a> Repair<'a> {
     }
 
     /// Own pairs and the messages to the other dead nodes.
-    fn first_step(&self, rank: usize, messages: &[u16]) -> Result<(Vec<u16>, Vec<u16>), Number> {
+    fn first_step(&self, rank: usize, messages: &[u16]) -> (Vec<u16>, Vec<u16>) {
         let new = self.dead[rank];
         let length = self.message_length();
         let strangers: Vec<usize> =
@@ -97,14 +97,14 @@ impl<'a> Repair<'a> {
             let own = point(new, spot.a);
             let mut unknown = vec![own, MODULUS - own];
             unknown.extend(strangers.iter().map(|&node| point(node, spot.a)));
-            let values = solve_parity(&known, &unknown).ok_or(8usize)?;
+            let values = solve_parity(&known, &unknown);
             pairs.push(values[0] as u16);
             pairs.push(values[1] as u16);
             for (other, &stranger) in others.iter().enumerate() {
                 sums[other * length + index] = values[2 + stranger] as u16;
             }
         }
-        Ok((pairs, sums))
+        (pairs, sums)
     }
 
     /// Subtracts known symbols from sums until all are known: first class 0 of layer 0, then the
@@ -180,7 +180,7 @@ pub fn first_step(
         (sums_length, (dead.len() - 1) * length),
     ])?;
     judge_symbols(messages)?;
-    repair.first_step(repair.rank(new), messages)
+    Ok(repair.first_step(repair.rank(new), messages))
 }
 
 pub fn second_step(
@@ -218,7 +218,7 @@ pub fn repair(
         for &helper in helpers {
             messages.extend(repair.message(rank, &nodes[helper * size..(helper + 1) * size]));
         }
-        first_steps.push(repair.first_step(rank, &messages)?);
+        first_steps.push(repair.first_step(rank, &messages));
         wire.extend(messages);
     }
     let mut nodes = nodes.to_vec();

@@ -24,14 +24,4 @@ complete-requires c κs =
 pub completed-spec : {M : Type 1} → statement M
 completed-spec =
     tie.close
-    (tie.spec
-    (λ c κs. search needs)
-    (λ c. search needs)
-    complete-requires
-    (λ c. search needs)
-    (λ c κs. search needs)
-    (λ c. search needs)
-    (λ c. search needs)
-    (λ c. search needs)
-    (λ c. search needs)
-    (λ c. search needs))
+    (tie.spec (λ c κs. search needs) (λ c. search needs) complete-requires (λ c κs. search needs) (λ c. search needs) (λ c. search needs))

@@ -58,7 +58,7 @@ returns c =
     missing-by (s .args .q) (s .args .points .now) (s .args .list .now) (s .args .values .now) (s .pre .0)
     (length (s .args .unknown .now)) (ap length same)
     (take (length (s .args .list .now)) (known .result)) (c .before .before .gathered2 .result) (c .before .before .before .right-side .result)
-    (c .before .vandermonde .result) (c .solve .result)
+    (c .solve .result) (c .before .vandermonde .result)
     (known-long s _ (known .ensures .0))
     (λ j h. getD-take _ (known .result) j 0 h ∙ known .ensures .1 j h)
     (c .before .before .before .right-side .ensures)

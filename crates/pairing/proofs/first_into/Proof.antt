@@ -94,7 +94,6 @@ returns c =
     let w = whole (c .before .before) .sums in
     let all : (x : ℕ) → x < messageSize (a .g .shape) (a .dead .now) → Below (c .before .before .class-size .result) (l .first) x = λ x h. all-passed (a .g .batches) (c .before .before .class-size .result) (l .first) x (omega arith) (rw (← w) h) in
     record {
-      never = refl;
       own = pairs-end _ _ _ _ _ (Below (c .before .before .class-size .result) (l .first)) _ _ all (l .inv .3) (p .1 .0);
       sent = sent-end _ _ _ _ _ (p .0 .1 .rank) (Below (c .before .before .class-size .result) (l .first)) _ _ all (l .inv .4) (p .1 .1);
     }

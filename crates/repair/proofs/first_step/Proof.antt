@@ -1,7 +1,5 @@
 -- `repair::first_step` meets its contract: turned back, or the pairs and sums of the new node's rank. Assumes nothing.
 use mathlib.Core.Path.{_≡_, sym, ap, ap₂, _∙_}
-use Prim.Native.Nat.{ℕ}
-use native.Mathlib.Omega.{arith}
 use borrow.Author.Needs.{needs}
 use lib.ListN.{length}
 use Rattle.shape.specs.Refusals.{answerNumber}
@@ -44,16 +42,11 @@ first-into-requires c κs =
 
 returns-2 : tie.Need-returns-2
 returns-2 c =
-    let z : _≡_ {A = ℕ} 0 1 = cc (c .before .before .before .before .before .before .first-into .ensures .never) in
-    absurd (omega arith)
-
-returns-3 : tie.Need-returns-3
-returns-3 c =
-    let e = none (c .before .before .before .before .before .before .before .before .before .before .before) in
-    let a = c .before .before .before .before .before .before .before .before .before .before .before .before .before .before .before .before .before .before .before .args in
-    let d = c .before .before .before .before .before .before .first-into .ensures in
-    let g = c .before .before .before .before .before .before .before .before .before .before .laid-out .ensures .0 in
-    let r = c .before .before .before .before .before .before .before .before .before .rank-of .ensures .1 in
+    let e = none (c .before .before .before .before .before .before .before .before .before) in
+    let a = c .before .before .before .before .before .before .before .before .before .before .before .before .before .before .before .before .before .args in
+    let d = c .before .before .before .before .first-into .ensures in
+    let g = c .before .before .before .before .before .before .before .before .laid-out .ensures .0 in
+    let r = c .before .before .before .before .before .before .before .rank-of .ensures .1 in
     record {
       number = sym e;
       own = d .own ∙ ap₂ (λ s u. ownPairs narrow s (a .dead .now) (a .helpers .now) u (a .messages .now)) g r ∙ sym (afterwards-done _ _ _ e);
@@ -73,9 +66,4 @@ first-step-spec =
     first-into-requires
     (λ c. search needs)
     (λ c. search needs)
-    (λ c. search needs)
-    (λ c. search needs)
-    returns-2
-    (λ c. search needs)
-    (λ c. search needs)
-    returns-3)
+    returns-2)

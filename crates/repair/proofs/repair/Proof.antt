@@ -1,6 +1,5 @@
 -- `repair::repair` meets its contract: turned back, or the wire and the nodes of the whole repair, assembled. Assumes nothing.
 use mathlib.Core.Path.{_≡_, sym, ap, _∙_}
-use Prim.Native.Nat.{ℕ}
 use native.Mathlib.Omega.{arith}
 use borrow.Author.Needs.{needs}
 use lib.ListN.{length}
@@ -55,36 +54,31 @@ exchange-requires c κs =
     let g = c .before .before .before .before .before .before .before .before .laid-out .ensures in
     (g .1, c .before .before .before .before .before .before .before .told-by .ensures, rw (g .0) (k .long), rw (g .0) (wired _ _ _ _ _ _ A (k .due) (rw (g .0) at (c .before .before .before .before .send .ensures))))
 
-returns-2 : tie.Need-returns-2
-returns-2 c =
-    let z : _≡_ {A = ℕ} 0 1 = cc (c .before .before .before .before .before .before .exchange .ensures .never) in
-    absurd (omega arith)
-
 renew-requires : tie.Need-renew-requires
 renew-requires c κs =
-    let k = known (c .before .before .before .before .before .before .before .before .before .before .before .before .before .before .before .before .before .before) in
+    let k = known (c .before .before .before .before .before .before .before .before .before .before .before .before .before .before .before .before) in
     let A = lists-accepted _ _ _ _ (k .listed) in
-    let g = c .before .before .before .before .before .before .before .before .before .before .before .before .before .before .before .before .before .laid-out .ensures in
-    let E = c .before .before .before .before .before .before .before .before .exchange .ensures in
-    let G = c .before .before .before .before .before .before .before .before .before .before .before .before .before .send .ensures in (
+    let g = c .before .before .before .before .before .before .before .before .before .before .before .before .before .before .before .laid-out .ensures in
+    let E = c .before .before .before .before .before .before .exchange .ensures in
+    let G = c .before .before .before .before .before .before .before .before .before .before .before .send .ensures in (
       g .1,
-      c .before .before .before .before .before .before .before .before .before .before .before .before .before .before .before .before .told-by .ensures,
+      c .before .before .before .before .before .before .before .before .before .before .before .before .before .before .told-by .ensures,
       rw (g .0) (E .nodes-long ∙ k .long),
       rw (g .0) (E .long ∙ G .long ∙ k .due ∙ wire-due _ _ (A .lists .some-dead)),
-      rw (g .0) (renewable _ _ _ _ _ _ A (k .due) (rw (g .0) at G) _ _ _ (rw (g .0) at E)),
+      rw (g .0) (renewable _ _ _ _ _ _ A (k .due) (rw (g .0) at G) _ _ (rw (g .0) at E)),
     )
 
-returns-3 : tie.Need-returns-3
-returns-3 c =
-    let e = none (c .before .before .before .before .before .before .before .before .before .before .before .before .before .before .before .before .before .before .before .before .before) in
-    let k = known (c .before .before .before .before .before .before .before .before .before .before .before .before .before .before .before .before .before .before .before .before .before) in
+returns-2 : tie.Need-returns-2
+returns-2 c =
+    let e = none (c .before .before .before .before .before .before .before .before .before .before .before .before .before .before .before .before .before .before .before) in
+    let k = known (c .before .before .before .before .before .before .before .before .before .before .before .before .before .before .before .before .before .before .before) in
     let A = lists-accepted _ _ _ _ (k .listed) in
-    let g = c .before .before .before .before .before .before .before .before .before .before .before .before .before .before .before .before .before .before .before .before .laid-out .ensures .0 in
-    let G = rw g at (c .before .before .before .before .before .before .before .before .before .before .before .before .before .before .before .before .send .ensures) in
-    let E = rw g at (c .before .before .before .before .before .before .before .before .before .before .before .exchange .ensures) in
+    let g = c .before .before .before .before .before .before .before .before .before .before .before .before .before .before .before .before .before .before .laid-out .ensures .0 in
+    let G = rw g at (c .before .before .before .before .before .before .before .before .before .before .before .before .before .before .send .ensures) in
+    let E = rw g at (c .before .before .before .before .before .before .before .before .before .exchange .ensures) in
     let R = rw g at (c .before .before .renew .ensures) in
-    let w = wire-is _ _ _ _ _ _ A (k .due) G _ _ _ E in
-    let n = nodes-are _ _ _ _ _ _ A (k .due) G _ _ _ E _ (k .long) R in
+    let w = wire-is _ _ _ _ _ _ A (k .due) G _ _ E in
+    let n = nodes-are _ _ _ _ _ _ A (k .due) G _ _ E _ (k .long) R in
     repaired-promise _ _ _ _ _ _ _ e w n
 
 pub repair-spec : {M : Type 1} → statement M
@@ -100,12 +94,7 @@ repair-spec =
     told-by-requires
     send-requires
     exchange-requires
-    (λ c. search needs)
-    (λ c. search needs)
-    (λ c. search needs)
-    (λ c. search needs)
-    returns-2
     renew-requires
     (λ c. search needs)
     (λ c. search needs)
-    returns-3)
+    returns-2)

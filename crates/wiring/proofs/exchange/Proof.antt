@@ -1,6 +1,6 @@
 -- `wiring::exchange` meets its contract: the first steps of the ranks passed are done. Assumes nothing.
 use mathlib.Core.Path.{_≡_, refl, _∙_}
-use Prim.Native.Nat.{ℕ, _+_, _-_, _*_, _≤_}
+use Prim.Native.Nat.{_+_, _-_, _*_, _≤_}
 use native.Mathlib.Nat.{mul-le-mul}
 use native.Mathlib.Omega.{arith}
 use borrow.Author.Needs.{needs}
@@ -71,27 +71,23 @@ first-on-wire-requires c κs =
     let st = c .before .before .before .before .before .before .before .before .before .before in
     (st .pre .0, omega arith, st .pre .1, simp (length-take, length-drop) (omega (arith, within (c .before .before .before), c .before .before .before .before .before .size .ensures)), wired (c .before .before .before))
 
-returns : tie.Need-returns Inv-loop μ-loop
-returns c =
-    let z : _≡_ {A = ℕ} 0 1 = cc (c .before .before .before .before .before .before .first-on-wire .ensures .never) in
-    absurd (omega arith)
-
 loop-again : tie.Need-loop-again Inv-loop μ-loop
 unfolding node
 loop-again c =
-    let st = c .before .before .before .before .before .before .before .before .before .before .before .before .before .before .before .before .before in
+    let st = c .before .before .before .before .before .before .before .before .before .before .before .before .before .before .before in
     let a = st .args in
-    let l = c .before .before .before .before .before .before .before .before .before .before .before .loop in
-    let F = c .before .before .before .before .before .before .first-on-wire .ensures in (
-      omega (arith, c .before .before .before .before .before .before .before .before .before .before .loop-test .taken),
+    let l = c .before .before .before .before .before .before .before .before .before .loop in
+    let F = c .before .before .before .before .first-on-wire .ensures in
+    let u-low = c .before .before .before .before .before .before .before .before .loop-test .taken in (
+      omega (arith, u-low),
       refl,
-      rw (c .before .before .before .before .before .before .before .before .before .before .before .before .size .ensures)
-          (exchanging-more (a .g .shape) (a .dead .now) (a .helpers .now) (ready-dead (st .pre .0)) (l .u) (omega (arith, c .before .before .before .before .before .before .before .before .before .before .loop-test .taken)) (a .nodes .now) (l .nodes) (a .wire .now) (l .wire) _ _ _
+      rw (c .before .before .before .before .before .before .before .before .before .before .size .ensures)
+          (exchanging-more (a .g .shape) (a .dead .now) (a .helpers .now) (ready-dead (st .pre .0)) (l .u) (omega (arith, u-low)) (a .nodes .now) (l .nodes) (a .wire .now) (l .wire) _ _
           (st .pre .2) (omega (arith, st .pre .3 .long)) (F .own .long) (l .inv .2) F),
     )
 
-returns-2 : tie.Need-returns-2 Inv-loop μ-loop
-returns-2 c = let l = c .before .loop in exchanging-end _ _ _ (l .u) _ _ _ _ (omega arith) (l .inv .2)
+returns : tie.Need-returns Inv-loop μ-loop
+returns c = let l = c .before .loop in exchanging-end _ _ _ (l .u) _ _ _ _ (omega arith) (l .inv .2)
 
 pub exchange-spec : {M : Type 1} → statement M
 exchange-spec =
@@ -112,12 +108,7 @@ exchange-spec =
     first-on-wire-requires
     (λ c. search needs)
     (λ c. search needs)
-    (λ c. search needs)
-    (λ c. search needs)
-    returns
-    (λ c. search needs)
-    (λ c. search needs)
     loop-again
     (λ c. search needs)
     (λ c. search needs)
-    returns-2)
+    returns)

@@ -126,7 +126,7 @@ returns c =
     let w = whole (c .before .before) .sums in
     let all : (x : ℕ) → x < messageSize (a .g .shape) (a .dead .now) → Below (c .before .before .class-size .result) (l .first) x = λ x h. all-passed (a .g .batches) (c .before .before .class-size .result) (l .first) x (omega arith) (rw (← w) h) in
     let e = on-wire-end (p .0) _ _ (p .1) (Below (c .before .before .class-size .result) (l .first)) _ _ _ _ all (p .3) (l .inv .3) in
-    record { never = refl; own = e .0; sent = e .1 }
+    record { own = e .0; sent = e .1 }
 
 pub first-on-wire-spec : {M : Type 1} → statement M
 first-on-wire-spec =
