@@ -1,4 +1,4 @@
--- Solving r equations in r unknowns: what is promised of `solve` and `complete`, and of the steps inside them.
+-- Solving r equations in r unknowns: what is promised of `solve` and `complete`, and of the steps inside them; equations without a pivot 0.
 use mathlib.Core.Path.{_≡_}
 use mathlib.Core.Bool.{true, false}
 use mathlib.Core.List.{List, []}
