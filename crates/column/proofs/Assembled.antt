@@ -17,7 +17,7 @@ use Rattle.column.specs.Column.{Points}
 use Rattle.column.specs.Solving.{mostEntries, cell, powerOf, less, eliminated, differences, pivotAt, pivot, term, Vandermonde, Meets, Substituted}
 use Rattle.column.proofs.Elimination.{eliminated-ext, differences-ext}
 use Rattle.column.proofs.Solved.{corner-product, triangle-solved}
-use Rattle.column.proofs.Solvable.{differences-small, solvable}
+use Rattle.column.proofs.Solvable.{differences-small, pivots-good}
 use Rattle.column.proofs.Substitution.{res-of-mod}
 
 first-power : (x : ℕ) → x ^ 1 ≡ x
@@ -61,7 +61,7 @@ module _ (q : ℕ) (prime : Prime q) (xs : List ℕ) (apart : Points q xs) (r : 
   right-is i h = side-is i h ∙ eliminated-ext q (element points) (element xs) (element right) (element right) i 0 (point-is i h) (λ t l. refl)
 
   meets : (i : ℕ) → i < r → Meets q r triangle side values i
-  meets = w .meets (pivots-ext q r (pivotAt q xs) (pivot triangle) (λ i h. left-is i i h h) (rw long at (solvable q prime xs apart .pivots)))
+  meets = w .meets (pivots-ext q r (pivotAt q xs) (pivot triangle) (λ i h. left-is i i h h) (rw long at (pivots-good q prime xs apart)))
 
   taken : (j : ℕ) → j < r → element (take r values) j ≡ element values j
   taken j h = getD-take r values j 0 h

@@ -15,7 +15,7 @@ use Rattle.field.specs.Residues.{minus}
 use Rattle.field.proofs.Bridge.{minus-mod, solution-ext}
 use Rattle.column.specs.Column.{parity, listedSum, unknowns, missing, completed}
 use Rattle.column.specs.Solving.{cell, powerOf, Vandermonde, Solves, Known, Missing, Scattered}
-use Rattle.column.proofs.Solvable.{unknowns-solvable}
+use Rattle.column.proofs.Solvable.{solvable}
 use Rattle.column.proofs.Column.{completed-by}
 
 module _ (q : ℕ) (ps list values : List ℕ) (w : Known q ps list values) where
@@ -58,7 +58,7 @@ module _ (q : ℕ) (ps list values : List ℕ) (w : Known q ps list values) wher
       long = solves .long;
       found =
           ap (λ n. take n out) (sym rest-length ∙ sym r-is ∙ sym count)
-          ∙ unknowns-solvable q (w .prime) ps (w .apart) list (w .up) .solved wanted right out equations (rw count solves)
+          ∙ solvable q (w .prime) ps (w .apart) list (w .up) .solved wanted right out equations (rw count solves)
           ∙ solution-ext q xs _ _ (λ t l. right-is t (omega (arith, count)) ∙ ap (minus q 0) (part t) ∙ minus-mod q 0 _)
           ∙ (unfold missing in refl);
     }

@@ -1,4 +1,4 @@
--- Points that differ make one set of equations with no pivot that is 0 (document 02 §11).
+-- Where all points in one set of equations differ, no pivot is 0 (document 02 §11).
 use mathlib.Core.Path.{_≡_, refl}
 use mathlib.Core.Bool.{true}
 use mathlib.Core.List.{List}
@@ -9,8 +9,9 @@ use lib.ListN.{length}
 use Rattle.lists.specs.Lists.{element, others, rising}
 use Rattle.lists.proofs.Others.{others-rise}
 use Rattle.field.specs.Residues.{Prime}
+use Rattle.inverting.specs.Inverses.{Pivots}
 use Rattle.column.specs.Column.{Points, unknowns}
-use Rattle.column.specs.Solving.{differences, Solvable}
+use Rattle.column.specs.Solving.{differences, pivotAt, Solvable}
 use Rattle.column.proofs.Solved.{points-picked, pivot-nonzero}
 
 pub differences-small : (q x i : ℕ) (points : ℕ → ℕ) → 1 < q → differences q points i x < q
@@ -19,18 +20,20 @@ differences-small q x zero points h = h
 differences-small q x (suc i) points h = mod-lt _ (omega arith)
 
 module _ (q : ℕ) (prime : Prime q) where
-  pub solvable : (points : List ℕ) → Points q points → Solvable q points
-  solvable points apart = record {
-    differ = apart;
-    pivots = record {
-      prime = prime;
-      small = λ i h. differences-small q (element points i) i (element points) (prime .big);
-      nonzero = pivot-nonzero q prime points apart;
-    };
-    solved = λ powers right values v w. w .solved points refl prime apart v;
+  -- the pivots of points that differ
+  pub pivots-good : (xs : List ℕ) → Points q xs → Pivots q (length xs) (pivotAt q xs)
+  pivots-good xs apart = record {
+    prime = prime;
+    small = λ i h. differences-small q (element xs i) i (element xs) (prime .big);
+    nonzero = pivot-nonzero q prime xs apart;
   }
 
-  -- those of a column's points that are not listed
-  pub unknowns-solvable : (points : List ℕ) → Points q points → (list : List ℕ) → rising 0 (length points) list ≡ true → Solvable q (unknowns points list)
-  unknowns-solvable points apart list up =
-      solvable (unknowns points list) (points-picked q points apart 0 (others (length points) list) (others-rise (length points) list up))
+  pub solvable : (points : List ℕ) → Points q points → (list : List ℕ) → rising 0 (length points) list ≡ true → Solvable q points list
+  solvable points apart list up = record {
+    differ = apart;
+    pivots = pivots-good (unknowns points list) some;
+    solved = λ powers right values v w. w .solved (unknowns points list) refl prime some v;
+  }
+    where
+      some : Points q (unknowns points list)
+      some = points-picked q points apart 0 (others (length points) list) (others-rise (length points) list up)

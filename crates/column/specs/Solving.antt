@@ -8,7 +8,7 @@ use Rattle.lists.specs.Lists.{element, rising, member}
 use Rattle.lists.specs.Sums.{sum}
 use Rattle.field.specs.Residues.{Prime, minus, solution}
 use Rattle.inverting.specs.Inverses.{Pivots}
-use Rattle.column.specs.Column.{Points, missing, completed}
+use Rattle.column.specs.Column.{Points, unknowns, missing, completed}
 
 -- the most entries of a column: n + 1 of a first step
 abbrev pub mostEntries : ℕ
@@ -106,10 +106,11 @@ pub record Scattered (list values before after : List ℕ) : Type 0 where
 abbrev pub pivotAt : ℕ → List ℕ → ℕ → ℕ
 pivotAt q points i = differences q (element points) i (element points i)
 
--- "All points in one set of equations differ", and no pivot of `solve` is 0. The symbols stand in the right sides alone: whatever these are,
--- the values that `solve` promises are the solution.
-pub record Solvable (q : ℕ) (points : List ℕ) : Type 0 where
+-- A column's points with some of its entries listed: "All points in one set of equations differ", and no pivot is 0 that `solve` has for the
+-- others. The symbols stand in the right sides alone: whatever these are, the values that `solve` promises are the solution.
+pub record Solvable (q : ℕ) (points list : List ℕ) : Type 0 where
   pub differ : Points q points
-  pub pivots : Pivots q (length points) (pivotAt q points)
-  pub solved : (powers : List (List ℕ)) (right values : List ℕ) → Vandermonde q points powers → Solves q (length points) powers right values
-      → take (length points) values ≡ solution q points (element right)
+  pub pivots : Pivots q (length (unknowns points list)) (pivotAt q (unknowns points list))
+  pub solved : (powers : List (List ℕ)) (right values : List ℕ) → Vandermonde q (unknowns points list) powers
+      → Solves q (length (unknowns points list)) powers right values
+      → take (length (unknowns points list)) values ≡ solution q (unknowns points list) (element right)
