@@ -2,7 +2,7 @@
 use mathlib.Core.Path.{_≡_, _∙_}
 use mathlib.Core.Bool.{Bool, true, false, not, _||_}
 use mathlib.Core.List.{List}
-use Prim.Native.Nat.{ℕ, _*_, _^_, _≤_, _<_}
+use Prim.Native.Nat.{ℕ, _*_, _≤_, _<_}
 use native.Mathlib.Nat.{mul-le-mul}
 use native.Mathlib.Omega.{arith}
 use borrow.Author.Tests.{ltb-true, ltb-false, lt-ltb, le-ltb, eqb-true, not-false}
@@ -12,9 +12,9 @@ use Rattle.lists.specs.Lists.{all, below}
 use Rattle.lists.proofs.Tests.{neither}
 use Rattle.shape.specs.declared.Refusal.{Refusal}
 use Rattle.shape.specs.declared.Shape.{Shape}
-use Rattle.shape.specs.Shape.{mostNodes, mostLayers, size}
+use Rattle.shape.specs.Shape.{mostNodes, size}
 use Rattle.shape.specs.Refusals.{numberOf, refuse, shapeBad, wrongLength, symbolBad}
-use Rattle.shape.proofs.Accepted.{passed, Shaped, shape-accepted}
+use Rattle.shape.proofs.Accepted.{passed, Shaped, shape-accepted, mostSize}
 use Rattle.shape.proofs.Answers.{number-positive}
 use Rattle.card.specs.declared.Header.{Header}
 use Rattle.card.specs.Cards.{headerRefusal, cardRoom, packRefusal}
@@ -22,7 +22,7 @@ use Rattle.card.specs.Cards.{headerRefusal, cardRoom, packRefusal}
 -- ---- headers
 
 -- "A transcript has 0 to k × N bytes"
-pub capacity-high : (s : Shape) → Shaped s → s .k * size s ≤ mostNodes * (mostLayers * 2 ^ mostNodes)
+pub capacity-high : (s : Shape) → Shaped s → s .k * size s ≤ mostNodes * mostSize
 capacity-high s g = mul-le-mul (let k : s .k ≤ mostNodes = omega arith in k) (g .size-high)
 
 -- a header that is not turned back

@@ -1,9 +1,9 @@
 // The check of an archive (demand 2).
 use code::gathered;
+use code::node_numbers;
 use code::points_at;
 use column::parity;
 use comparing::listed_met;
-use filling::NODES;
 use patterns::pays;
 use shape::Answer;
 use shape::MODULUS;
@@ -81,7 +81,7 @@ fn rows_met(s: Shape, nodes: &[u16]) -> usize
     ensures { λ to. ⌜ MetTo s (now (nodes .entry)) to ⌝ }
 {
     let k = s.k;
-    let all = NODES;
+    let all = node_numbers();
     listed_met(s, &all[..k], nodes)
 }
 
@@ -106,7 +106,7 @@ fn search(s: Shape, nodes: &[u16]) -> Checked
     ensures { λ found. ⌜ found ≡ checkedBy s (firstUnmet narrow s (now (nodes .entry))) ⌝ }
 {
     let k = s.k;
-    let all = NODES;
+    let all = node_numbers();
     if rows_pay(s, &all[..k]) {
         return first_unmet(s, nodes, rows_met(s, nodes));
     }

@@ -8,7 +8,7 @@ use lib.Arith.{digits-lt}
 use lib.ListN.{length}
 use lib.Pow.{pow-pos}
 use Rattle.shape.specs.Shape.{mostNodes, mostLayers, size}
-use Rattle.shape.proofs.Accepted.{Shaped, shape-accepted}
+use Rattle.shape.proofs.Accepted.{Shaped, shape-accepted, mostSize}
 use Rattle.classes.specs.declared.Layout.{Layout}
 use Rattle.classes.specs.Classes.{batch, top, node, placeOf, messageSize}
 use Rattle.classes.specs.Layout.{Ready}
@@ -27,7 +27,7 @@ pub record Bounds (dead : List ℕ) (g : Layout) : Type 0 where
   pub layers-are : g .batches * g .batch ≡ g .shape .layers
   pub layers-high : g .shape .layers ≤ mostLayers
   pub size-is : g .batches * g .batch * g .places ≡ size (g .shape)
-  pub size-high : size (g .shape) ≤ mostLayers * 2 ^ mostNodes
+  pub size-high : size (g .shape) ≤ mostSize
 
 pub ready-dead : {dead : List ℕ} {g : Layout} → Ready dead g → Dead (g .shape) dead
 ready-dead R = record { rises = R .rises; whole = R .whole }
@@ -78,6 +78,6 @@ placed {dead} {g} R w b a h k l =
 pub node-high : {dead : List ℕ} {g : Layout} → Ready dead g → (u : ℕ) → u < length dead → (node dead u < g .shape .n) × (node dead u < mostNodes)
 node-high R u h = let l = node-below (ready-dead R) u h in (l, omega (arith, bounded R .n-high))
 
-pub share-high : {dead : List ℕ} {g : Layout} → Ready dead g → messageSize (g .shape) dead ≤ mostLayers * 2 ^ mostNodes
+pub share-high : {dead : List ℕ} {g : Layout} → Ready dead g → messageSize (g .shape) dead ≤ mostSize
 unfolding messageSize
 share-high {dead} {g} R = le-trans (div-le-self (size (g .shape)) (length dead + 1)) (bounded R .size-high)

@@ -1,4 +1,5 @@
 // Layout and classes: what the shape and the dead nodes of a repair fix.
+use shape::MOST_NODES;
 use shape::Shape;
 use shape::batch;
 use shape::two_to;
@@ -9,7 +10,7 @@ ghost use lib.Bits.{bitXor};
 ghost use lib.Dec.{eqb};
 ghost use lib.ListN.{length, getD};
 ghost use Rattle.lists.specs.Digits.{bit};
-ghost use Rattle.shape.specs.Shape.{mostNodes, size};
+ghost use Rattle.shape.specs.Shape.{mostNodes};
 ghost use Rattle.shape.specs.Refusals.{shapeBad};
 ghost use Rattle.classes.specs.Classes.{batch, top, node, classOf, rankClass, partner, members};
 ghost use Rattle.classes.specs.Steps.{place};
@@ -17,7 +18,7 @@ ghost use Rattle.classes.specs.Layout.{Ready, Fronted, Listed};
 ghost use Rattle.lists.specs.Lists.{member, position, rising};
 
 // The most members of a class, those of a layer.
-pub const MEMBERS: usize = 4096;
+pub const MEMBERS: usize = 1 << MOST_NODES;
 
 // What the shape and the dead nodes fix, worked out once for each call.
 pub struct Layout {

@@ -7,12 +7,13 @@ use lib.ListN.{length, getD, take}
 use Rattle.lists.specs.Lists.{element, rising, member}
 use Rattle.lists.specs.Sums.{sum}
 use Rattle.field.specs.Residues.{Prime, minus, solution}
+use Rattle.shape.specs.Shape.{mostNodes}
 use Rattle.inverting.specs.Inverses.{Pivots}
 use Rattle.column.specs.Column.{Points, unknowns, missing, completed}
 
 -- the most entries of a column: n + 1 of a first step
 abbrev pub mostEntries : ℕ
-mostEntries = 13
+mostEntries = mostNodes + 1
 
 -- element t of row j of an array of arrays
 abbrev pub cell : List (List ℕ) → ℕ → ℕ → ℕ

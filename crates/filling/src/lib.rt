@@ -7,7 +7,6 @@ use rows::RUN;
 use rows::add_products;
 use rows::store;
 use shape::MODULUS;
-use shape::MOST_NODES;
 use shape::Shape;
 use shape::two_to;
 use tables::FLAGS;
@@ -24,9 +23,6 @@ ghost use Rattle.rows.specs.Rows.{mostPlaces, Low};
 ghost use Rattle.tables.specs.Tables.{tableSize, Marks};
 ghost use Rattle.patterns.specs.Patterns.{patterns, Represented};
 ghost use Rattle.filling.specs.Filling.{Summable, Summed, Fillable, FilledRun, Filled, InLayers, Everywhere};
-
-// The node numbers, of which the first k are the data nodes.
-pub const NODES: [usize; MOST_NODES] = [0, 1, 2, 3, 4, 5, 6, 7, 8, 9, 10, 11];
 
 // The sums, at a run of places, of the symbols in some rows of a buffer, each times its multiplier: those of the table's rows from `first` on.
 pub fn sum_row(

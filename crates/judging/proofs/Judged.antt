@@ -2,7 +2,7 @@
 use mathlib.Core.Path.{_≡_, refl, sym, ap, _∙_}
 use mathlib.Core.Bool.{Bool, true, false, not, _||_}
 use mathlib.Core.List.{List}
-use Prim.Native.Nat.{ℕ, zero, suc, _+_, _-_, _*_, _/_, _%_, _^_, _≤_, _<_}
+use Prim.Native.Nat.{ℕ, zero, suc, _+_, _-_, _*_, _/_, _%_, _≤_, _<_}
 use native.Mathlib.Nat.{mul-le-mul, div-le-self, le-trans}
 use native.Mathlib.Omega.{arith}
 use borrow.Author.Tests.{eqb-true, not-false}
@@ -10,12 +10,12 @@ use lib.ListN.{length, getD}
 use Rattle.lists.specs.Lists.{all, member, outside, rising}
 use Rattle.lists.proofs.Tests.{neither, all-at}
 use Rattle.shape.specs.declared.Shape.{Shape}
-use Rattle.shape.specs.Shape.{mostNodes, mostLayers, size}
+use Rattle.shape.specs.Shape.{mostNodes, size}
 use Rattle.shape.specs.declared.Refusal.{Refusal}
 use Rattle.shape.specs.declared.Answer.{Answer}
 use Rattle.shape.specs.declared.Answer.the-variants.{Done, Refused}
 use Rattle.shape.specs.Refusals.{numberOf, answerNumber, afterwards, refuse, shapeBad, repairBad, layersBad, wrongLength, symbolBad}
-use Rattle.shape.proofs.Accepted.{passed, shape-accepted, repair-accepted, layers-accepted, symbols-accepted}
+use Rattle.shape.proofs.Accepted.{passed, shape-accepted, repair-accepted, layers-accepted, symbols-accepted, mostSize}
 use Rattle.shape.proofs.Answers.{number-positive, afterwards-refused}
 use Rattle.code.specs.Code.{narrow}
 use Rattle.code.proofs.Accepted.{narrow-accepted}
@@ -126,7 +126,7 @@ module _ (s : Shape) (dead helpers : List ℕ) (unnamed : Bool) (L : Listed s de
     pub some : 1 ≤ length dead
     pub few : s .k + length dead < s .n
     pub n-high : s .n ≤ mostNodes
-    pub full : size s ≤ mostLayers * 2 ^ mostNodes
+    pub full : size s ≤ mostSize
 
   pub small : Small
   small =
@@ -134,8 +134,8 @@ module _ (s : Shape) (dead helpers : List ℕ) (unnamed : Bool) (L : Listed s de
       let r = repair-accepted s dead helpers (L .lists) in
       record { some = r .some-dead; few = r .few-dead; n-high = h .n-high; full = h .size-high }
 
-  pub share-fits : (x full : ℕ) → x ≤ mostNodes * mostNodes → full ≡ size s → x * (full / (length dead + 1)) ≤ mostNodes * mostNodes * (mostLayers * 2 ^ mostNodes)
-  share-fits x full h e = mul-le-mul {m₂ = mostLayers * 2 ^ mostNodes} h (le-trans (div-le-self full (length dead + 1)) (rw e (small .full)))
+  pub share-fits : (x full : ℕ) → x ≤ mostNodes * mostNodes → full ≡ size s → x * (full / (length dead + 1)) ≤ mostNodes * mostNodes * mostSize
+  share-fits x full h e = mul-le-mul {m₂ = mostSize} h (le-trans (div-le-self full (length dead + 1)) (rw e (small .full)))
 
 -- a length that is not wrong
 pub right-length : (had due : ℕ) → wrongLength had due ≡ false → had ≡ due

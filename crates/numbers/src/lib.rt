@@ -9,7 +9,7 @@ ghost use Rattle.lists.specs.Lists.{all, below};
 ghost use Rattle.numbers.specs.Numbers.{mostGroups, groupValues, numeral, numberAt};
 
 // "Only the shortest form is read, of at most three groups."
-const MOST_GROUPS: usize = 3;
+pub const MOST_GROUPS: usize = 3;
 
 // The values of a group of seven bits.
 const GROUP_VALUES: usize = 128;

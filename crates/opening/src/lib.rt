@@ -1,6 +1,6 @@
 // Opening: a transcript from any k nodes of an archive (demand 2). A data node that is listed is copied; the symbols of another are sums of
 // the k listed ones at their place, each times a multiplier of its a, which serves all layers (document 02, §4).
-use filling::NODES;
+use code::node_numbers;
 use filling::run_of;
 use filling::sum_row;
 use patterns::pays;
@@ -145,7 +145,7 @@ fn missing_row(
     ensures { λ row. ⌜ MissingRow s place run i (now (table .entry)) (now (symbols .entry)) row ⌝ }
 {
     let k = s.k;
-    let all = NODES;
+    let all = node_numbers();
     let sums = sum_row(run, size(s), place, &all[..k], table, i * k, symbols);
     let mut row = [0u16; RUN];
     store(MODULUS, run, sums, 0, &mut row);

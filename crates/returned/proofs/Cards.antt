@@ -1,7 +1,7 @@
 -- A packed card is short; a card unpacked into a buffer for its symbols and one for its header.
 use mathlib.Core.Path.{_≡_, refl, sym, ap, _∙_}
 use mathlib.Core.List.{List, [], _∷_, _++_, append-nil}
-use Prim.Native.Nat.{ℕ, zero, suc, _+_, _*_, _^_, _≤_}
+use Prim.Native.Nat.{ℕ, zero, suc, _+_, _*_, _≤_}
 use native.Mathlib.Decide.{ℕ-discrete}
 use native.Mathlib.Omega.{arith}
 use mathlib.Core.Logic.{_≢_}
@@ -11,9 +11,9 @@ use lib.Seq.{length-take-le, drop-length}
 use Rattle.lists.proofs.Tests.{cond-equal, cond-unequal}
 use Rattle.lists.proofs.Writing.{sets-front}
 use Rattle.shape.specs.declared.Refusal.{Refusal}
-use Rattle.shape.specs.Shape.{symbolValues, mostNodes, mostLayers, size}
+use Rattle.shape.specs.Shape.{symbolValues, size}
 use Rattle.shape.specs.Refusals.{numberOf, refuse, wrongLength}
-use Rattle.shape.proofs.Accepted.{passed}
+use Rattle.shape.proofs.Accepted.{passed, mostSize}
 use Rattle.shape.proofs.Answers.{number-positive, afterwards-done}
 use Rattle.card.specs.declared.Header.{Header}
 use Rattle.card.specs.declared.Packed.{Packed}
@@ -30,7 +30,7 @@ use Rattle.returned.specs.Promises.{unpackRoom, unpackedInto, readingHea
 -- ---- packing
 
 pub card-short : (h : Header) (symbols before after : List ℕ) (answer : Packed) (long : ℕ) → Packs h symbols before after answer → answer ≡ pack.Card long
-    → long ≤ 15 + 2 * (mostLayers * 2 ^ mostNodes)
+    → long ≤ 15 + 2 * mostSize
 unfolding cardRoom
 card-short h symbols before after answer long p e =
     let taken : packRefusal symbolValues h symbols (length before) ≡ 0 = sym (p .number) ∙ ap packedNumber e in

@@ -6,9 +6,9 @@ use Prim.Native.Nat.{ℕ, _+_, _-_, _*_, _^_, _<_}
 use native.Mathlib.Omega.{arith}
 use lib.Arith.{digits-lt}
 use Rattle.shape.specs.declared.Shape.{Shape}
-use Rattle.shape.specs.Shape.{mostNodes, mostLayers, size}
+use Rattle.shape.specs.Shape.{mostNodes, size}
 use Rattle.shape.specs.Refusals.{shapeBad}
-use Rattle.shape.proofs.Accepted.{Shaped, passed, shape-accepted}
+use Rattle.shape.proofs.Accepted.{Shaped, passed, shape-accepted, mostSize}
 use Rattle.checking.specs.declared.Checked.{Checked}
 use Rattle.checking.specs.declared.Checked.the-variants.{Unmet}
 use Rattle.code.specs.Refusals.{checkRefusal}
@@ -17,14 +17,14 @@ use Rattle.checking.specs.Promises.{checkedNumber, equationNumber, Checks}
 -- equation t at (layer, a) is one of the shape's
 pub record Within (s : Shape) (layer a t : ℕ) : Type 0 where
   pub shaped : Shaped s
-  pub place : layer * 2 ^ s .n + a < mostLayers * 2 ^ mostNodes
-  pub number : equationNumber s layer a t < mostLayers * 2 ^ mostNodes * mostNodes
+  pub place : layer * 2 ^ s .n + a < mostSize
+  pub number : equationNumber s layer a t < mostSize * mostNodes
 
 pub within : (s : Shape) (layer a t : ℕ) → shapeBad s ≡ false → layer < s .layers → a < 2 ^ s .n → t < s .n - s .k → Within s layer a t
 unfolding equationNumber size
 within s layer a t e l h below =
     let shaped = shape-accepted s e in
-    let place : layer * 2 ^ s .n + a < mostLayers * 2 ^ mostNodes = omega (arith, digits-lt l h, shaped .size-high) in
+    let place : layer * 2 ^ s .n + a < mostSize = omega (arith, digits-lt l h, shaped .size-high) in
     record {
       shaped = shaped;
       place = place;

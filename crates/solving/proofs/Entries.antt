@@ -183,7 +183,7 @@ module _ {dead : List ℕ} {g : Layout} (R : Ready dead g) (helpers : List ℕ) 
           few = few;
           short = omega (arith, few-helpers);
           low = W .low;
-          room = omega (arith, W .long, mul-le-mul {n₁ = i + 1} {m₁ = length helpers} {n₂ = 13} {m₂ = 11} (omega arith) (omega (arith, few-helpers)));
+          room = omega (arith, W .long, mul-le-mul {n₁ = i + 1} {m₁ = length helpers} {n₂ = mostNodes + 1} {m₂ = mostNodes - 1} (omega arith) (omega (arith, few-helpers)));
           inside = λ j l. omega (arith, G .long, rising-below n helpers (H .rises) j l);
           small = λ j t l k. rw (told j t l k) (H .below j (first + t) (omega (arith, H .count)) (omega arith));
         }

@@ -6,6 +6,7 @@ use Prim.Native.Nat.{ℕ, _+_, _*_, _-_, _/_, _%_, _≤_, _<_}
 use native.Mathlib.Nat.{mul-le-mul}
 use native.Mathlib.Omega.{arith}
 use lib.Arith.{digits-lt, digits-div, digits-mod}
+use Rattle.shape.specs.Shape.{mostNodes}
 use Rattle.classes.specs.Steps.{place, otherRank}
 use Rattle.solving.specs.Solving.{slotOf, slots}
 use Rattle.classes.proofs.Placing.{place-below, other-place}
@@ -44,7 +45,7 @@ senders-apart h M u v x t w y a b d e f g k l q =
     sym (other-place h v u b a (λ z. d (sym z))) ∙ ap₂ otherRank same at ∙ other-place h w t f e (λ z. g (sym z))
 
 -- there are few messages
-pub slots-few : (all : Bool) (h : ℕ) → h ≤ 12 → slots all h ≤ 144
+pub slots-few : (all : Bool) (h : ℕ) → h ≤ mostNodes → slots all h ≤ mostNodes * mostNodes
 unfolding slots
-slots-few true h l = mul-le-mul {n₂ = 12} {m₂ = 12} l (omega arith)
+slots-few true h l = mul-le-mul {n₂ = mostNodes} {m₂ = mostNodes} l (omega arith)
 slots-few false h l = omega arith

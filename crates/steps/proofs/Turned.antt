@@ -38,6 +38,7 @@ use Rattle.classes.proofs.Members.{member-is, member-sum, members-few, one-clas
 use Rattle.steps.specs.Storing.{sumSymbol, Paired, LowAt, Crossed}
 use Rattle.batches.specs.Batches.{turned, Apart, addedIn, PairedIn, LowNear, leftIn, Stored}
 use Rattle.lists.proofs.Parts.{row-within}
+use Rattle.shape.proofs.Accepted.{mostSize}
 use Rattle.batches.proofs.Batches.{turned-is, turned-none}
 use Rattle.steps.proofs.Pieces.{Pieces}
 use Rattle.steps.proofs.Storing.{sum-first, sum-other, sums-own, sums-apart}
@@ -282,21 +283,21 @@ every {dead} {g} R {u} {table} {count} K e =
     let w : take count table ≡ range 0 (2 ^ g .shape .n) = K .front ∙ ap (λ c. members dead c (2 ^ g .shape .n)) z ∙ one-class dead n (2 ^ g .shape .n) in
     w ∙ ap (range 0) (sym (range-length 0 (2 ^ g .shape .n)) ∙ ap length (sym w))
 
-pub turn-high : {dead : List ℕ} {g : Layout} → Ready dead g → (u turn which : ℕ) → u < length dead → turn ≡ partner dead u * 2 ^ g .shape .n + 2 ^ node dead u → which < 2 → turn * which ≤ 13 * 4096
+pub turn-high : {dead : List ℕ} {g : Layout} → Ready dead g → (u turn which : ℕ) → u < length dead → turn ≡ partner dead u * 2 ^ g .shape .n + 2 ^ node dead u → which < 2 → turn * which ≤ (mostNodes + 1) * 2 ^ mostNodes
 turn-high {dead} {g} R u turn which l e h =
     let D = ready-dead R in
     let b = bounded R in
-    let p : 2 ^ g .shape .n ≤ 4096 = omega (arith, R .places-is, b .places-high) in
-    let q : partner dead u ≤ 12 = omega (arith, partner-lt dead u l, R .batch-is, b .batch-high) in
-    let t : turn ≤ 13 * 4096 = omega (arith, e, mul-le-mul q p, pow-lt (node-below D u l), p) in
-    omega (arith, mul-le-mul {n₁ = turn} {m₁ = which} {n₂ = 13 * 4096} {m₂ = 1} t (omega arith))
+    let p : 2 ^ g .shape .n ≤ 2 ^ mostNodes = omega (arith, R .places-is, b .places-high) in
+    let q : partner dead u ≤ mostNodes = omega (arith, partner-lt dead u l, R .batch-is, b .batch-high) in
+    let t : turn ≤ (mostNodes + 1) * 2 ^ mostNodes = omega (arith, e, mul-le-mul q p, pow-lt (node-below D u l), p) in
+    omega (arith, mul-le-mul {n₁ = turn} {m₁ = which} {n₂ = (mostNodes + 1) * 2 ^ mostNodes} {m₂ = 1} t (omega arith))
 
 -- the parts of the buffers that belong to batch b
 pub record Room (dead : List ℕ) (g : Layout) (b count : ℕ) : Type 0 where
   pub block : b * (g .batch * g .places) + g .batch * g .places ≤ size (g .shape)
   pub sums : b * count + count ≤ messageSize (g .shape) dead
-  pub size-high : size (g .shape) ≤ 61440
-  pub share-high : messageSize (g .shape) dead ≤ 61440
+  pub size-high : size (g .shape) ≤ mostSize
+  pub share-high : messageSize (g .shape) dead ≤ mostSize
 
 module _ {dead : List ℕ} {g : Layout} (R : Ready dead g) (u : ℕ) (l : u < length dead) (table : List ℕ) (count turn : ℕ) (K : Tabled dead g u table count turn) where
   pub blocks-are : g .batches * (g .batch * g .places) ≡ size (g .shape)

@@ -7,14 +7,11 @@ use Prim.Native.Nat.{ℕ, _+_, _*_, _-_, _<_}
 use lib.ListN.{length, getD}
 use Rattle.lists.specs.Lists.{member}
 use Rattle.column.specs.Column.{Points}
+use Rattle.column.specs.Solving.{mostEntries}
 use Rattle.shape.specs.Shape.{mostNodes}
 use Rattle.rows.specs.Rows.{mostPlaces, Low}
 use Rattle.code.specs.Code.{narrow, point, points, morePoints}
 use Rattle.multipliers.specs.Multipliers.{differences, multiplier}
-
--- the most entries of a column: the nodes', and one behind them
-abbrev pub mostEntries : ℕ
-mostEntries = mostNodes + 1
 
 -- how many flags there are, of which the first are the entries'
 abbrev pub flags : ℕ

@@ -1,5 +1,6 @@
 // The multipliers of a run of places, worked out together: for each entry of a column that is not listed, a row for each listed one.
 use code::point;
+use column::ENTRIES;
 use rows::RUN;
 use rows::inverses;
 use rows::quotients;
@@ -14,12 +15,10 @@ ghost use Prim.Native.Nat.{ℕ, _+_, _*_, _^_, _<_, _≤_};
 ghost use lib.ListN.{length, getD};
 ghost use Rattle.lists.specs.Lists.{element, rising};
 ghost use Rattle.shape.specs.Shape.{mostNodes};
+ghost use Rattle.column.specs.Solving.{mostEntries};
 ghost use Rattle.code.specs.Code.{narrow};
 ghost use Rattle.rows.specs.Rows.{mostPlaces, Low, Stored};
-ghost use Rattle.tables.specs.Tables.{mostEntries, pointsSize, tableSize, pointOf, oppositeOf, nodePoints, entryPoints, PointRows, Columns, Marks, Idle, DifferenceRow, RowsOver, TableOver, TableOf, Table};
-
-// The most entries of a column: the nodes', and one behind them.
-const ENTRIES: usize = MOST_NODES + 1;
+ghost use Rattle.tables.specs.Tables.{pointsSize, tableSize, pointOf, oppositeOf, nodePoints, entryPoints, PointRows, Columns, Marks, Idle, DifferenceRow, RowsOver, TableOver, TableOf, Table};
 
 // A flag for each entry. There are more, so that they are copied in whole words, and read again without waiting for that.
 pub const FLAGS: usize = 16;

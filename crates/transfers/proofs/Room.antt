@@ -14,9 +14,9 @@ use Rattle.lists.proofs.Writing.{Writing, writing-all, writing-room}
 use Rattle.shape.specs.declared.Shape.{Shape}
 use Rattle.shape.specs.declared.Refusal.{Refusal}
 use Rattle.shape.specs.declared.Refusal.the-variants.{BadShape, BadNodes, PartBatch, WrongLength, BadSymbol, Malformed, NoTranscript}
-use Rattle.shape.specs.Shape.{mostNodes, mostLayers, size, within}
+use Rattle.shape.specs.Shape.{mostNodes, size, within}
 use Rattle.shape.specs.Refusals.{numberOf, refuse, shapeBad, repairBad, layersBad}
-use Rattle.shape.proofs.Accepted.{passed, Shaped, shape-accepted, Repairable, repair-accepted}
+use Rattle.shape.proofs.Accepted.{passed, Shaped, shape-accepted, Repairable, repair-accepted, mostSize}
 use Rattle.classes.specs.Classes.{batch, node, messageSize}
 use Rattle.numbers.specs.Numbers.{Numbers, values, broken, readNumbers}
 use Rattle.transfers.specs.Plan.{helperTransfer, deadTransfer, transfers, noTransfer, line, transferLine, total, planText, textOr, listsNumber, withNodes, withLists, shapeNumber, withShape, withFront, leftOver, frontCount, printed, mostTransfers, lineRoom, totalRoom, planRoom}
@@ -70,7 +70,7 @@ module _ (s : Shape) (dead helpers : List ℕ) (p : Plannable s dead helpers) wh
   -- h messages of the h + 1 have no more symbols than a node, and there are k + h senders to each dead node
   pub total-high : length dead * (s .k + length dead) * messageSize s dead < 10 ^ 6
   total-high =
-      omega (arith, mul-le-mul senders-high (let l : length dead * messageSize s dead ≤ mostLayers * 2 ^ mostNodes = omega (arith, all-messages, S .size-high) in l))
+      omega (arith, mul-le-mul senders-high (let l : length dead * messageSize s dead ≤ mostSize = omega (arith, all-messages, S .size-high) in l))
 
   pub few-listed : Few dead helpers
   few-listed = omega (arith, R .some-dead, R .few-dead, R .helpers-count, S .n-high)

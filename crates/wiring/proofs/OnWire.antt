@@ -11,8 +11,8 @@ use Rattle.lists.specs.Lists.{piece}
 use Rattle.lists.proofs.Flats.{flat-length}
 use Rattle.lists.proofs.Buffers.{part-of}
 use Rattle.shape.specs.declared.Shape.{Shape}
-use Rattle.shape.specs.Shape.{size}
-use Rattle.shape.proofs.Accepted.{shape-accepted}
+use Rattle.shape.specs.Shape.{size, mostNodes}
+use Rattle.shape.proofs.Accepted.{shape-accepted, mostSize}
 use Rattle.code.specs.Code.{narrow}
 use Rattle.classes.specs.declared.Layout.{Layout}
 use Rattle.classes.specs.Classes.{messageSize}
@@ -47,18 +47,18 @@ lent-rank s dead told u wire e = piece-part told u wire ∙ ap (λ z. piece z u 
 pub record Room (dead : List ℕ) (g : Layout) (told u : ℕ) : Type 0 where
   pub part : u * told + told ≤ length dead * told
   pub all : length dead * told ≡ inwards (g .shape) dead
-  pub short : length dead * told ≤ 8847360
-  pub small : told ≤ 737280
+  pub short : length dead * told ≤ mostNodes * mostNodes * mostSize
+  pub small : told ≤ mostNodes * mostSize
 
 pub wire-room : {dead : List ℕ} {g : Layout} → Ready dead g → (told u : ℕ) → told ≡ inward (g .shape) dead → u < length dead → Room dead g told u
 unfolding inwards inward
 wire-room {dead} {g} R told u e l =
     let h = shape-accepted (g .shape) (R .shaped) in
-    let t : told ≤ 12 * 61440 = rw e (mul-le-mul {n₂ = 12} {m₂ = 61440} (omega (arith, h .k-high, h .n-high)) (share-high R)) in
+    let t : told ≤ mostNodes * mostSize = rw e (mul-le-mul {n₂ = mostNodes} {m₂ = mostSize} (omega (arith, h .k-high, h .n-high)) (share-high R)) in
     record {
       part = row-within (length dead) told u l;
       all = ap (λ z. length dead * z) e;
-      short = mul-le-mul {n₂ = 12} {m₂ = 737280} (omega (arith, bounded R .dead-high)) t;
+      short = mul-le-mul {n₂ = mostNodes} {m₂ = mostNodes * mostSize} (omega (arith, bounded R .dead-high)) t;
       small = t;
     }
 

@@ -1,5 +1,5 @@
 // Writing: the n nodes of an archive from a transcript (demand 2).
-use filling::NODES;
+use code::node_numbers;
 use filling::fill;
 use shape::Answer;
 use shape::Refusal;
@@ -70,7 +70,7 @@ fn write_all(s: Shape, transcript: &[u8], nodes: &mut [u16]) -> Answer
     ensures { λ answer. ⌜ (answer ≡ Answer.Done) × (now (nodes .exit) ≡ written narrow s (now (transcript .entry))) ⌝ }
 {
     let k = s.k;
-    let all = NODES;
+    let all = node_numbers();
     store_data(k * size(s), transcript, nodes);
     fill(s, &all[..k], nodes);
     Answer::Done

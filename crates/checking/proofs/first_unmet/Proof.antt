@@ -9,6 +9,7 @@ use lib.Seq.{length-take-le}
 use Rattle.lists.specs.Lists.{element}
 use Rattle.shape.specs.declared.Shape.{Shape}
 use Rattle.shape.specs.Shape.{mostNodes, size}
+use Rattle.shape.proofs.Accepted.{mostSize}
 use Rattle.checking.specs.declared.Checked.the-variants.{Sound}
 use Rattle.code.specs.Code.{narrow}
 use Rattle.code.specs.Archive.{equation}
@@ -57,7 +58,7 @@ place : (c : tie.In-loop Inv-loop2 μ-loop2 Inv-loop μ-loop Inv-equations μ-eq
 place c = digits-lt (c .before .before .equations-test .taken) (c .loop-test .taken)
 
 places : (c : tie.In-loop Inv-loop2 μ-loop2 Inv-loop μ-loop Inv-equations μ-equations) →
-    c .before .before .before .before .before .before .args .s .layers * c .before .before .before .before .two-to .result ≤ 15 * 4096
+    c .before .before .before .before .before .before .args .s .layers * c .before .before .before .before .two-to .result ≤ mostSize
 unfolding size
 places c = rw (c .before .before .before .before .two-to .ensures) (inner c .shaped .size-high)
 

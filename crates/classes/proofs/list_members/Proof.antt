@@ -12,6 +12,7 @@ use lib.Dec.{eqb}
 use Rattle.classes.specs.Classes.{top, classOf, inClass}
 use lib.ListN.{length}
 use Rattle.lists.proofs.Tests.{both}
+use Rattle.shape.specs.Shape.{mostNodes}
 use Rattle.classes.proofs.Layouts.{bounded}
 use Rattle.classes.proofs.Members.{members-few, Listing, listing-none, listing-more, listing-end, all-listed}
 use Rattle.classes.proofs.list_members.Statement.{statement}
@@ -55,7 +56,7 @@ unfolding inClass
 counted dead d a class e = rw e
 
 -- no more are written than numbers were looked at
-inside : (c : tie.In-loop Inv-loop μ-loop) → (c .before .loop .a < 4096) × (c .before .loop .x < length (c .before .loop .out))
+inside : (c : tie.In-loop Inv-loop μ-loop) → (c .before .loop .a < 2 ^ mostNodes) × (c .before .loop .x < length (c .before .loop .out))
 inside c =
     let st = c .before .before .before .before .before .before in
     let b = bounded (st .pre .0) in

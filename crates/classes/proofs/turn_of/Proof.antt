@@ -1,10 +1,11 @@
 -- `classes::turn_of` meets its contract: the partner layer and the node's bit, in the numbers of the layout. Assumes nothing.
 use mathlib.Core.Path.{ap₂}
-use Prim.Native.Nat.{_*_, _+_, _≤_}
+use Prim.Native.Nat.{_*_, _+_, _≤_, _^_}
 use native.Mathlib.Nat.{mul-le-mul}
 use native.Mathlib.Omega.{arith}
 use borrow.Author.Needs.{needs}
 use lib.Pow.{pow-mono}
+use Rattle.shape.specs.Shape.{mostNodes}
 use Rattle.classes.specs.Classes.{node}
 use Rattle.classes.proofs.Layouts.{bounded, node-high}
 use Rattle.classes.proofs.Ranks.{partner-lt}
@@ -12,13 +13,13 @@ use Rattle.classes.proofs.turn_of.Statement.{statement}
 use Rattle.classes.proofs.turn_of.Tie as tie
 
 -- the partner layer's places
-high : (c : tie.After-partner) → let g = c .before .before .before .args .g in c .partner .result * g .places ≤ 12 * 4096
+high : (c : tie.After-partner) → let g = c .before .before .before .args .g in c .partner .result * g .places ≤ mostNodes * 2 ^ mostNodes
 high c =
     let p = c .before .before .before .pre in
     let b = bounded (p .0) in
     let a = c .before .before .before .args in
     let l = partner-lt (a .dead .now) (a .u) (p .1) in
-    mul-le-mul {n₂ = 12} {m₂ = 4096} (omega (arith, l, c .partner .ensures, p .0 .batch-is, b .batch-high)) (b .places-high)
+    mul-le-mul {n₂ = mostNodes} {m₂ = 2 ^ mostNodes} (omega (arith, l, c .partner .ensures, p .0 .batch-is, b .batch-high)) (b .places-high)
 
 two-to-requires : tie.Need-two-to-requires
 unfolding node
@@ -28,11 +29,11 @@ mul-result : tie.Need-mul-result
 mul-result c = omega (arith, high c)
 
 -- the node's bit
-bit-high : (c : tie.After-two-to) → c .two-to .result ≤ 4096
+bit-high : (c : tie.After-two-to) → c .two-to .result ≤ 2 ^ mostNodes
 unfolding node
 bit-high c =
     let p = c .before .before .before .before .pre in
-    rw (c .two-to .ensures) (pow-mono {j = 12} (let h = node-high (p .0) _ (p .1) .1 in omega (arith, bounded (p .0) .dead-high)))
+    rw (c .two-to .ensures) (pow-mono {j = mostNodes} (let h = node-high (p .0) _ (p .1) .1 in omega (arith, bounded (p .0) .dead-high)))
 
 add-result : tie.Need-add-result
 add-result c = omega (arith, high (c .before), bit-high c)

@@ -7,8 +7,8 @@ use native.Mathlib.Omega.{arith}
 use borrow.Author.Needs.{needs}
 use borrow.Author.Tests.{not-false}
 use lib.Pow.{pow-pos}
-use Rattle.shape.specs.Shape.{mostNodes, mostLayers, size}
-use Rattle.shape.proofs.Accepted.{shape-accepted}
+use Rattle.shape.specs.Shape.{size}
+use Rattle.shape.proofs.Accepted.{shape-accepted, mostSize}
 use Rattle.filling.specs.Filling.{Filled, InLayers}
 use Rattle.filling.proofs.Filling.{run-filled, layers-none, layers-more}
 use Rattle.comparing.proofs.layers_met.Statement.{statement}
@@ -38,7 +38,7 @@ loop-holds c =
 layer-room : (c : tie.In-loop Inv-loop μ-loop) →
     let s = c .before .before .before .before .before .before .before .before .before .before .before .args in
     let two = c .before .before .before .before .before .before .two-to .result in
-    (c .before .loop .layer * two + s .a + s .run ≤ s .s .layers * two) × (s .s .layers * two ≤ mostLayers * 2 ^ mostNodes)
+    (c .before .loop .layer * two + s .a + s .run ≤ s .s .layers * two) × (s .s .layers * two ≤ mostSize)
 unfolding size
 layer-room c =
     let s = c .before .before .before .before .before .before .before .before .before .before .before in

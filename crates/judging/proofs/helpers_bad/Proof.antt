@@ -12,9 +12,9 @@ use Rattle.lists.proofs.Buffers.{part-of}
 use Rattle.lists.proofs.Members.{rising-below}
 use Rattle.lists.proofs.Scans.{all-pass, all-fail, all-end}
 use Rattle.shape.specs.declared.Shape.{Shape}
-use Rattle.shape.specs.Shape.{size}
+use Rattle.shape.specs.Shape.{size, mostNodes}
 use Rattle.shape.specs.Refusals.{symbolBad}
-use Rattle.shape.proofs.Accepted.{shape-accepted}
+use Rattle.shape.proofs.Accepted.{shape-accepted, mostSize}
 use Rattle.code.specs.Code.{narrow}
 use Rattle.judging.specs.Refusals.{nodeGood}
 use Rattle.judging.proofs.helpers_bad.Statement.{statement}
@@ -37,7 +37,7 @@ loop-holds c = (search needs, refl)
 within : (c : tie.In-loop Inv-loop μ-loop) →
     let a = c .before .before .before .before .before .args in
     let i = getD (a .helpers .now) (c .before .loop .j) 0 in
-    (i * c .before .before .size .result + c .before .before .size .result ≤ length (a .nodes .now)) × (length (a .nodes .now) ≤ 737280)
+    (i * c .before .before .size .result + c .before .before .size .result ≤ length (a .nodes .now)) × (length (a .nodes .now) ≤ mostNodes * mostSize)
 within c =
     let st = c .before .before .before .before .before in
     let e = c .before .before .size .ensures in

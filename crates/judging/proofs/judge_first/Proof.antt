@@ -1,12 +1,13 @@
 -- `judging::judge_first` meets its contract: causes 1 to 3, the lengths, then the symbols. Assumes nothing.
 use mathlib.Core.Path.{sym, _∙_}
 use mathlib.Core.Bool.{not}
-use Prim.Native.Nat.{_+_, _-_, _≤_}
+use Prim.Native.Nat.{_+_, _-_, _≤_, _*_}
 use native.Mathlib.Omega.{arith}
 use borrow.Author.Needs.{needs}
 use lib.ListN.{length}
 use Rattle.lists.specs.Lists.{outside}
 use Rattle.shape.specs.Refusals.{wrongLength}
+use Rattle.shape.specs.Shape.{mostNodes}
 use Rattle.classes.specs.Classes.{messageSize}
 use Rattle.judging.specs.Refusals.{firstStepRefusal}
 use Rattle.judging.proofs.Judged.{Listed, small, share-fits, judged-stop, judged-listed, judged-length, judged-symbols, judged-done}
@@ -32,7 +33,7 @@ mul-if1 : tie.Need-mul-if1
 mul-if1 c =
     let k = known (c .before) in
     let m = small _ _ _ _ k in
-    let h : c .before .before .before .before .before .before .before .before .args .s .k + 1 ≤ 144 = omega (arith, m .few, m .n-high) in
+    let h : c .before .before .before .before .before .before .before .before .args .s .k + 1 ≤ mostNodes * mostNodes = omega (arith, m .few, m .n-high) in
     omega (arith, share-fits _ _ _ _ k _ _ h (c .size .ensures))
 
 mul-if1-2 : tie.Need-mul-if1-2
@@ -45,7 +46,7 @@ mul-if1-3 : tie.Need-mul-if1-3
 mul-if1-3 c =
     let k = known (c .before) in
     let m = small _ _ _ _ k in
-    let h : length (c .before .before .before .before .before .before .before .before .args .dead .now) - 1 ≤ 144 = omega (arith, m .few, m .n-high) in
+    let h : length (c .before .before .before .before .before .before .before .before .args .dead .now) - 1 ≤ mostNodes * mostNodes = omega (arith, m .few, m .n-high) in
     omega (arith, share-fits _ _ _ _ k _ _ h (c .size .ensures))
 
 returns-2 : tie.Need-returns-2

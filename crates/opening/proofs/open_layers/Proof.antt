@@ -6,8 +6,8 @@ use native.Mathlib.Omega.{arith}
 use native.Mathlib.Nat.{mul-le-mul-right}
 use borrow.Author.Tests.{not-true, not-false}
 use borrow.Author.Needs.{needs}
-use Rattle.shape.proofs.Accepted.{shape-accepted}
-use Rattle.shape.specs.Shape.{mostNodes, mostLayers, size}
+use Rattle.shape.proofs.Accepted.{shape-accepted, mostSize}
+use Rattle.shape.specs.Shape.{size}
 use Rattle.opening.specs.Steps.{opened, Walked, OneOf, AtLayer}
 use Rattle.opening.proofs.Places.{table-factors}
 use Rattle.opening.proofs.Walking.{walked-none, walked-on, walked-ends}
@@ -36,7 +36,7 @@ loop-holds c = (search needs, walked-none _ _ _ _ _)
 layer-room : (c : tie.In-loop Inv-loop μ-loop) →
     let a = c .before .before .before .before .before .before .before .before .before .before .before .before .args in
     let two = c .before .before .before .before .before .before .two-to .result in
-    (c .before .loop .layer * two + a .a + a .run ≤ size (a .s)) × (size (a .s) ≤ mostLayers * 2 ^ mostNodes)
+    (c .before .loop .layer * two + a .a + a .run ≤ size (a .s)) × (size (a .s) ≤ mostSize)
 unfolding size
 layer-room c =
     let s = c .before .before .before .before .before .before .before .before .before .before .before .before in

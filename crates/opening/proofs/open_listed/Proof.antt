@@ -7,8 +7,8 @@ use native.Mathlib.Nat.{mul-le-mul, mul-le-mul-right}
 use borrow.Author.Tests.{not-true, not-false}
 use borrow.Author.Needs.{needs}
 use lib.ListN.{length, getD}
-use Rattle.shape.specs.Shape.{size}
-use Rattle.shape.proofs.Accepted.{shape-accepted}
+use Rattle.shape.specs.Shape.{size, mostNodes}
+use Rattle.shape.proofs.Accepted.{shape-accepted, mostSize}
 use Rattle.opening.specs.Steps.{opened, Walked, OneOf, OfListed}
 use Rattle.opening.proofs.Places.{listed-walked}
 use Rattle.opening.proofs.Walking.{walked-none, walked-skip, walked-on, walked-ends}
@@ -29,12 +29,12 @@ below c = omega (arith, c .loop-test .taken, c .before .before .before .before .
 within : (c : tie.Else1 Inv-loop μ-loop) →
     let a = c .before .before .before .before .before .before .before .before .before .args in
     let each = c .before .before .before .before .before .size .result in
-    (c .before .before .before .before .loop .j * each + each ≤ length (a .symbols .now)) × (length (a .symbols .now) ≤ 12 * (15 * 4096)) × (getD (a .list .now) (c .before .before .before .before .loop .j) 0 * each + each ≤ 12 * (15 * 4096))
+    (c .before .before .before .before .loop .j * each + each ≤ length (a .symbols .now)) × (length (a .symbols .now) ≤ mostNodes * mostSize) × (getD (a .list .now) (c .before .before .before .before .loop .j) 0 * each + each ≤ mostNodes * mostSize)
 within c =
     let s = c .before .before .before .before .before .before .before .before .before in
     let a = s .args in
     let w = shape-accepted _ (s .pre .0 .shape) in
-    let z : a .s .k ≤ 12 = omega (arith, w .k-high, w .n-high) in
+    let z : a .s .k ≤ mostNodes = omega (arith, w .k-high, w .n-high) in
     let few = mul-le-mul z (w .size-high) in
     let j : c .before .before .before .before .loop .j + 1 ≤ a .s .k = omega (arith, below (c .before .before .before)) in
     let i : getD (a .list .now) (c .before .before .before .before .loop .j) 0 + 1 ≤ a .s .k = omega (arith, c .if1 .left) in

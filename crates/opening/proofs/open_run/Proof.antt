@@ -9,8 +9,8 @@ use borrow.Author.Needs.{needs}
 use lib.Seq.{length-take-le, getD-take}
 use lib.ListN.{length, getD, take}
 use Rattle.lists.specs.Lists.{member}
-use Rattle.shape.specs.Shape.{size}
-use Rattle.shape.proofs.Accepted.{shape-accepted}
+use Rattle.shape.specs.Shape.{size, mostNodes}
+use Rattle.shape.proofs.Accepted.{shape-accepted, mostSize}
 use Rattle.rows.proofs.Rows.{low-each}
 use Rattle.filling.proofs.Filling.{row-room}
 use Rattle.filling.specs.Filling.{InRun}
@@ -33,11 +33,11 @@ flagged c =
     s .pre .1 .each _ (omega (arith, c .loop-test .taken, shape-accepted _ (s .pre .0 .shape) .k-high))
 
 -- a row lies among the data symbols, and those are few
-within : (c : tie.In-loop Inv-loop μ-loop) → let a = c .before .before .before .before .before .before .before .args in c .before .loop .i * c .before .before .size .result + a .place + a .run ≤ 12 * (15 * 4096)
+within : (c : tie.In-loop Inv-loop μ-loop) → let a = c .before .before .before .before .before .before .before .args in c .before .loop .i * c .before .before .size .result + a .place + a .run ≤ mostNodes * mostSize
 within c =
     let s = c .before .before .before .before .before .before .before in
     let w = shape-accepted _ (s .pre .0 .shape) in
-    let z : s .args .s .k ≤ 12 = omega (arith, w .k-high, w .n-high) in
+    let z : s .args .s .k ≤ mostNodes = omega (arith, w .k-high, w .n-high) in
     rw (c .before .before .size .ensures) (omega (arith, row-room _ _ (c .before .loop .i) _ _ (c .loop-test .taken) (s .pre .3), mul-le-mul z (w .size-high)))
 
 -- what was done with a row

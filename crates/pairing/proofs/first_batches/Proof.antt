@@ -4,6 +4,7 @@ use mathlib.Core.Bool.{false}
 use Prim.Native.Nat.{_+_, _-_, _*_, _≤_}
 use native.Mathlib.Omega.{arith}
 use borrow.Author.Needs.{needs}
+use Rattle.shape.proofs.Accepted.{mostSize}
 use Rattle.filling.specs.Filling.{InLayers}
 use Rattle.classes.specs.Classes.{messageSize}
 use Rattle.classes.proofs.Layouts.{share-high}
@@ -28,7 +29,7 @@ loop-holds c = (omega arith, put-none _ _ _ _ _ _ (λ e x k h d. omega (arith, d
 -- the run of this batch is within the messages
 room : (c : tie.In-loop Inv-loop μ-loop) →
     let a = c .before .before .before .before .before .before .before .before .args in
-    (c .before .loop .b * a .size + a .first + a .run ≤ messageSize (a .g .shape) (a .dead .now)) × (messageSize (a .g .shape) (a .dead .now) ≤ 61440)
+    (c .before .loop .b * a .size + a .first + a .run ≤ messageSize (a .g .shape) (a .dead .now)) × (messageSize (a .g .shape) (a .dead .now) ≤ mostSize)
 room c =
     let p = c .before .before .before .before .before .before .before .before .pre .0 in
     let a = c .before .before .before .before .before .before .before .before .args in

@@ -5,6 +5,7 @@ use Prim.Native.Nat.{ℕ, _+_, _*_, _≤_, _<_}
 use native.Mathlib.Omega.{arith}
 use borrow.Author.Needs.{needs}
 use lib.ListN.{length}
+use Rattle.shape.proofs.Accepted.{mostSize}
 use Rattle.classes.specs.Classes.{node}
 use Rattle.classes.proofs.Layouts.{bounded, share-high, node-high}
 use Rattle.solving.specs.Solving.{slots, Places, pairPlace}
@@ -30,7 +31,7 @@ places c e h =
       apart = λ t v l k q. omega (arith, d .1 t (omega (arith, p .0 .2)), d .1 v (omega (arith, p .0 .2)), q);
     }
 
-short : (c : tie.Start) → c .args .first + c .args .run ≤ 61440
+short : (c : tie.Start) → c .args .first + c .args .run ≤ mostSize
 short c = omega (arith, c .pre .0 .3, share-high (c .pre .0 .0))
 
 slice-aggregate-put-entry : tie.Need-slice-aggregate-put-entry

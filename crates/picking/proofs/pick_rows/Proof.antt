@@ -8,6 +8,7 @@ use borrow.Author.Needs.{needs}
 use lib.ListN.{length}
 use Rattle.lists.specs.Lists.{member}
 use Rattle.lists.proofs.Others.{rising-fits}
+use Rattle.shape.specs.Shape.{mostNodes}
 use Rattle.rows.specs.Rows.{mostPlaces}
 use Rattle.tables.specs.Tables.{tableSize, NodeRows}
 use Rattle.tables.proofs.Tables.{row-room}
@@ -25,7 +26,7 @@ abbrev μ-loop : tie.MeasureT-loop
 μ-loop n run list looked source i table₀ k j₀ table j = k - j
 
 -- there are few listed nodes, and the row lies in the table
-few : (c : tie.In-loop Inv-loop μ-loop) → c .before .loop .j + 1 ≤ 12
+few : (c : tie.In-loop Inv-loop μ-loop) → c .before .loop .j + 1 ≤ mostNodes
 few c = let s = c .before .before .before .before .before .before in omega (arith, c .loop-test .taken, rising-fits (s .args .n) (s .args .list .now) (s .pre .2), s .pre .0)
 
 room : (c : tie.In-loop Inv-loop μ-loop) → let a = c .before .before .before .before .before .before .args in (a .i * length (a .list .now) + c .before .loop .j) * mostPlaces + mostPlaces ≤ tableSize

@@ -5,6 +5,8 @@ use native.Mathlib.Nat.{mul-le-mul, mul-le-mul-right}
 use native.Mathlib.Omega.{arith}
 use borrow.Author.Needs.{needs}
 use lib.ListN.{length, getD}
+use Rattle.shape.specs.Shape.{mostNodes}
+use Rattle.shape.proofs.Accepted.{mostSize}
 use Rattle.rows.specs.Rows.{mostPlaces}
 use Rattle.filling.specs.Filling.{InRun, Summable}
 use Rattle.classes.specs.Classes.{node, messageSize}
@@ -53,7 +55,7 @@ slot-requires c κs = let p = c .before .before .before .before .before .before 
 -- the row lies in the buffer
 within : (c : tie.After-slot Inv-loop μ-loop) →
     let a = c .before .before .before .before .before .before .before .before .before .before .before .args in
-    (c .slot .result * a .g .share + a .first + a .run ≤ length (a .out .now)) × (length (a .out .now) ≤ 8847360) × (a .g .share ≡ messageSize (a .g .shape) (a .dead .now))
+    (c .slot .result * a .g .share + a .first + a .run ≤ length (a .out .now)) × (length (a .out .now) ≤ mostNodes * mostNodes * mostSize) × (a .g .share ≡ messageSize (a .g .shape) (a .dead .now))
 within c =
     let st = c .before .before .before .before .before .before .before .before .before .before .before in
     let a = st .args in
@@ -61,7 +63,7 @@ within c =
     let e = p .0 .share-is in
     let M = messageSize (a .g .shape) (a .dead .now) in (
       rw (e, st .pre .1) (omega (arith, p .3, mul-le-mul-right M (let z : c .slot .result + 1 ≤ slots (a .all) (length (a .dead .now)) = omega (arith, c .slot .ensures .0) in z))),
-      rw (st .pre .1) (mul-le-mul {n₂ = 144} {m₂ = 61440} (slots-few _ _ (omega (arith, bounded (p .0) .dead-high))) (share-high (p .0))),
+      rw (st .pre .1) (mul-le-mul {n₂ = mostNodes * mostNodes} {m₂ = mostSize} (slots-few _ _ (omega (arith, bounded (p .0) .dead-high))) (share-high (p .0))),
       e,
     )
 

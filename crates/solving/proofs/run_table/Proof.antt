@@ -9,6 +9,7 @@ use lib.ListN.{length, getD, length-set}
 use Rattle.lists.specs.Lists.{element}
 use Rattle.lists.proofs.Stores.{stored-more}
 use Rattle.lists.proofs.Members.{rising-more}
+use Rattle.shape.specs.Shape.{mostNodes}
 use Rattle.shape.proofs.Accepted.{shape-accepted}
 use Rattle.rows.specs.Rows.{mostPlaces}
 use Rattle.classes.specs.Classes.{node, rankClass}
@@ -38,7 +39,7 @@ loop-holds : tie.Need-loop-holds Inv-loop μ-loop
 loop-holds c = (omega arith, refl, λ k h. absurd (omega arith))
 
 -- the run is within the class, and there are no more than 4096 a
-inside : (c : tie.In-loop Inv-loop μ-loop) → let a = c .before .before .before .before .before .before .before .before .before .args in (a .first + c .before .loop .t < length (a .class .now)) × (a .first + c .before .loop .t < 4096)
+inside : (c : tie.In-loop Inv-loop μ-loop) → let a = c .before .before .before .before .before .before .before .before .before .args in (a .first + c .before .loop .t < length (a .class .now)) × (a .first + c .before .loop .t < 2 ^ mostNodes)
 inside c =
     let st = c .before .before .before .before .before .before .before .before .before in
     let p = st .pre .1 in
@@ -85,7 +86,7 @@ entry-multipliers-requires c κs =
         st .pre .1 .1,
         omega (arith, c .before .before .before .before .loop .inv .1, st .pre .1 .1),
         rw add-one (rising-more n k (st .pre .0 .2)),
-        omega (arith, mul-le-mul {n₁ = n + 1} {m₁ = length k} {n₂ = 13} {m₂ = 11} (omega arith) (omega (arith, st .pre .0 .3))),
+        omega (arith, mul-le-mul {n₁ = n + 1} {m₁ = length k} {n₂ = mostNodes + 1} {m₂ = mostNodes - 1} (omega arith) (omega (arith, st .pre .0 .3))),
       ),
       (
         c .before .before .before .before .before .before .marks .ensures,

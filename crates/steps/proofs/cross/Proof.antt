@@ -1,6 +1,6 @@
 -- `steps::cross` meets its contract. Assumes nothing.
 use mathlib.Core.Path.{_≡_, refl, sym, ap, _∙_}
-use Prim.Native.Nat.{_+_, _-_, _*_, _≤_, _<_}
+use Prim.Native.Nat.{_+_, _-_, _*_, _≤_, _<_, _^_}
 use native.Mathlib.Nat.{mul-le-mul}
 use native.Mathlib.Omega.{arith}
 use lib.ListN.{length, take, drop, length-take, length-drop}
@@ -9,6 +9,7 @@ use Rattle.rows.proofs.Rows.{low-part}
 use Rattle.code.specs.Code.{narrow}
 use Rattle.classes.proofs.Layouts.{bounded}
 use Rattle.lists.proofs.Parts.{piece-part}
+use Rattle.shape.specs.Shape.{mostNodes}
 use Rattle.steps.proofs.Pieces.{Pieces, pieces-none, pieces-more}
 use Rattle.steps.proofs.Turned.{BatchCrossed, turn-high, Tabled, tabled, every, Room, room, blocks-are, apart-by, low-by, crossed-done}
 use borrow.Author.Needs.{needs}
@@ -39,7 +40,7 @@ mul-far : tie.Need-mul-far Inv-loop μ-loop
 mul-far c = let st = c .before .before .before .before .before .before in omega (arith, turn-high (st .pre .0 .0) (st .args .u) (c .turn-of .result) (st .args .which) (st .pre .0 .1) (c .turn-of .ensures) (st .pre .0 .4))
 
 mul-block : tie.Need-mul-block Inv-loop μ-loop
-mul-block c = let b = bounded (c .before .before .before .before .before .before .before .pre .0 .0) in omega (arith, mul-le-mul {n₂ = 12} {m₂ = 4096} (b .batch-high) (b .places-high))
+mul-block c = let b = bounded (c .before .before .before .before .before .before .before .pre .0 .0) in omega (arith, mul-le-mul {n₂ = mostNodes} {m₂ = 2 ^ mostNodes} (b .batch-high) (b .places-high))
 
 loop-holds : tie.Need-loop-holds Inv-loop μ-loop
 loop-holds c = (search needs, pieces-none _ _ _ _)

@@ -1,6 +1,6 @@
 -- `steps::message_with` meets its contract. Assumes nothing.
 use mathlib.Core.Path.{_≡_, sym, ap, _∙_}
-use Prim.Native.Nat.{_+_, _-_, _*_, _≤_}
+use Prim.Native.Nat.{_+_, _-_, _*_, _≤_, _^_}
 use native.Mathlib.Nat.{mul-le-mul}
 use native.Mathlib.Omega.{arith}
 use lib.ListN.{length, take, drop, length-take, length-drop}
@@ -10,6 +10,7 @@ use Rattle.batches.specs.Batches.{addedIn}
 use Rattle.code.specs.Code.{narrow}
 use Rattle.classes.proofs.Layouts.{bounded}
 use Rattle.lists.proofs.Parts.{piece-part}
+use Rattle.shape.specs.Shape.{mostNodes}
 use Rattle.steps.proofs.Pieces.{Pieces, pieces-none, pieces-more}
 use Rattle.steps.proofs.Turned.{BatchAdded, Tabled, tabled, every, Room, room, sums-are, apart-other, message-done}
 use borrow.Author.Needs.{needs}
@@ -34,7 +35,7 @@ part : (c : tie.In-loop Inv-loop μ-loop) → let a = c .before .before .before 
 part c = let st = c .before .before .before .before .before .before .before .before .before .before .before .before .before .before in room (st .pre .0) _ (st .pre .1) _ _ _ (known (c .before)) (c .before .loop .b) (omega arith)
 
 mul-block : tie.Need-mul-block Inv-loop μ-loop
-mul-block c = let b = bounded (c .before .before .before .before .before .before .before .before .before .before .before .before .pre .0) in omega (arith, mul-le-mul {n₂ = 12} {m₂ = 4096} (b .batch-high) (b .places-high))
+mul-block c = let b = bounded (c .before .before .before .before .before .before .before .before .before .before .before .before .pre .0) in omega (arith, mul-le-mul {n₂ = mostNodes} {m₂ = 2 ^ mostNodes} (b .batch-high) (b .places-high))
 
 loop-holds : tie.Need-loop-holds Inv-loop μ-loop
 loop-holds c = (search needs, pieces-none _ _ _ _)

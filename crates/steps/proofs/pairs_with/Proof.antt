@@ -1,12 +1,13 @@
 -- `steps::pairs_with` meets its contract. Assumes nothing.
 use mathlib.Core.Path.{_≡_, sym, ap, _∙_}
-use Prim.Native.Nat.{_+_, _-_, _*_, _≤_, _<_}
+use Prim.Native.Nat.{_+_, _-_, _*_, _≤_, _<_, _^_}
 use native.Mathlib.Nat.{mul-le-mul}
 use native.Mathlib.Omega.{arith}
 use lib.ListN.{length, take, drop, length-take, length-drop}
 use Rattle.lists.specs.Lists.{piece}
 use Rattle.classes.proofs.Layouts.{bounded}
 use Rattle.lists.proofs.Parts.{piece-part}
+use Rattle.shape.specs.Shape.{mostNodes}
 use Rattle.steps.proofs.Pieces.{Pieces, pieces-none, pieces-more}
 use Rattle.steps.proofs.Turned.{BatchPaired, Tabled, tabled, Room, room, blocks-are, apart-first, apart-other, paired-done}
 use borrow.Author.Needs.{needs}
@@ -31,9 +32,9 @@ part : (c : tie.In-loop Inv-loop μ-loop) → let a = c .before .before .before 
 part c = let st = c .before .before .before .before .before .before .before .before .before .before .before .before .before .before in room (st .pre .0) _ (st .pre .1) _ _ _ (known (c .before)) (c .before .loop .b) (omega arith)
 
 mul-block : tie.Need-mul-block Inv-loop μ-loop
-mul-block c = let b = bounded (c .before .before .before .before .before .before .before .before .before .before .before .before .pre .0) in omega (arith, mul-le-mul {n₂ = 12} {m₂ = 4096} (b .batch-high) (b .places-high))
+mul-block c = let b = bounded (c .before .before .before .before .before .before .before .before .before .before .before .before .pre .0) in omega (arith, mul-le-mul {n₂ = mostNodes} {m₂ = 2 ^ mostNodes} (b .batch-high) (b .places-high))
 
-double-high : (c : tie.After-struct-known Inv-loop μ-loop) → c .before .before .class-size .result ≤ 4096
+double-high : (c : tie.After-struct-known Inv-loop μ-loop) → c .before .before .class-size .result ≤ 2 ^ mostNodes
 double-high c =
     let t = c .before .before .before .before .before .list-members in
     tabled (c .before .before .before .before .before .before .before .before .before .before .before .before .pre .0) _ _ _ _ _ (c .before .before .before .before .before .before .before .rank-class .ensures) (t .ensures) (rw (t .kept .1 .1 .1 .0) (c .before .before .before .before .before .before .before .before .before .before .before .before .pre .2)) (c .before .before .class-size .ensures) (c .before .turn-of .ensures) .high

@@ -7,7 +7,7 @@ use borrow.Author.Needs.{needs}
 use borrow.Author.Tests.{eqb-false}
 use lib.ListN.{length}
 use Rattle.lists.proofs.Tests.{neither}
-use Rattle.shape.specs.Shape.{size}
+use Rattle.shape.specs.Shape.{size, mostNodes}
 use Rattle.code.specs.Code.{narrow}
 use Rattle.classes.specs.Layout.{Fronted}
 use Rattle.classes.proofs.Layouts.{ready-dead, bounded}
@@ -55,7 +55,7 @@ relist-requires-2 : tie.Need-relist-requires-2 Inv-loop μ-loop
 relist-requires-2 c κs = (c .before .before .before .before .before .before .before .before .before .before .before .before .before .before .before .before .before .before .pre .0 .0, room (c .before .before .before .before), c .before .before .before .before .loop .inv .5)
 
 -- a rank is left
-low : (c : tie.In-loop Inv-loop μ-loop) → (c .before .loop .u < length (c .before .before .before .before .before .before .before .before .before .before .before .before .before .before .before .args .dead .now)) × (c .before .loop .u < 12)
+low : (c : tie.In-loop Inv-loop μ-loop) → (c .before .loop .u < length (c .before .before .before .before .before .before .before .before .before .before .before .before .before .before .before .args .dead .now)) × (c .before .loop .u < mostNodes)
 low c =
     let e : c .before .loop .u < length (c .before .before .before .before .before .before .before .before .before .before .before .before .before .before .before .args .dead .now) = omega arith in
     (e, omega (arith, bounded (c .before .before .before .before .before .before .before .before .before .before .before .before .before .before .before .pre .0 .0) .dead-high))

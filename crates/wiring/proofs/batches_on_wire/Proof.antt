@@ -4,6 +4,8 @@ use Prim.Native.Nat.{_+_, _-_, _*_, _≤_}
 use native.Mathlib.Nat.{mul-le-mul-right}
 use native.Mathlib.Omega.{arith}
 use borrow.Author.Needs.{needs}
+use Rattle.shape.specs.Shape.{mostLayers}
+use Rattle.shape.proofs.Accepted.{mostSize}
 use Rattle.filling.specs.Filling.{InLayers}
 use Rattle.classes.specs.Classes.{messageSize}
 use Rattle.classes.proofs.Layouts.{bounded, share-high}
@@ -27,7 +29,7 @@ loop-holds c = let p = c .before .before .before .before .before .before .before
 room : (c : tie.In-loop Inv-loop μ-loop) →
     let a = c .before .before .before .before .before .before .before .before .before .args in
     let b = c .before .loop .b in
-    (b * a .count + a .first + a .run ≤ messageSize (a .g .shape) (a .dead .now)) × (messageSize (a .g .shape) (a .dead .now) ≤ 61440) × (b * a .g .batch * a .g .places ≤ 61440) × (b * a .g .batch ≤ 15)
+    (b * a .count + a .first + a .run ≤ messageSize (a .g .shape) (a .dead .now)) × (messageSize (a .g .shape) (a .dead .now) ≤ mostSize) × (b * a .g .batch * a .g .places ≤ mostSize) × (b * a .g .batch ≤ mostLayers)
 room c =
     let p = c .before .before .before .before .before .before .before .before .before .pre in
     let a = c .before .before .before .before .before .before .before .before .before .args in

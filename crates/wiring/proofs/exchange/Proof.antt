@@ -5,8 +5,8 @@ use native.Mathlib.Nat.{mul-le-mul}
 use native.Mathlib.Omega.{arith}
 use borrow.Author.Needs.{needs}
 use lib.ListN.{length, getD, length-take, length-drop}
-use Rattle.shape.specs.Shape.{size}
-use Rattle.shape.proofs.Accepted.{shape-accepted}
+use Rattle.shape.specs.Shape.{size, mostNodes}
+use Rattle.shape.proofs.Accepted.{shape-accepted, mostSize}
 use Rattle.classes.specs.Classes.{node}
 use Rattle.wiring.specs.Wires.{Wired}
 use Rattle.classes.proofs.Layouts.{ready-dead, node-high}
@@ -33,7 +33,7 @@ loop-holds c = (omega arith, refl, exchanging-none _ _ _ _ _)
 within : (c : tie.In-loop Inv-loop μ-loop) →
     let a = c .before .before .before .before .before .before .before .args in
     let i = getD (a .dead .now) (c .before .loop .u) 0 in
-    (i * c .before .before .size .result + c .before .before .size .result ≤ length (c .before .loop .nodes)) × (length (c .before .loop .nodes) ≤ 737280)
+    (i * c .before .before .size .result + c .before .before .size .result ≤ length (c .before .loop .nodes)) × (length (c .before .loop .nodes) ≤ mostNodes * mostSize)
 unfolding node
 within c =
     let st = c .before .before .before .before .before .before .before in

@@ -11,8 +11,8 @@ use Rattle.lists.proofs.Members.{rising-below}
 use Rattle.lists.proofs.Others.{rising-fits}
 use Rattle.lists.proofs.Flats.{flat-none}
 use Rattle.lists.proofs.Buffers.{onto, onto-none}
-use Rattle.shape.specs.Shape.{size}
-use Rattle.shape.proofs.Accepted.{shape-accepted}
+use Rattle.shape.specs.Shape.{size, mostNodes}
+use Rattle.shape.proofs.Accepted.{shape-accepted, mostSize}
 use Rattle.code.specs.Code.{narrow}
 use Rattle.classes.specs.Classes.{messageSize}
 use Rattle.classes.specs.Steps.{helperMessage}
@@ -42,8 +42,8 @@ within : (c : tie.In-loop Inv-loop μ-loop) →
     let a = c .before .before .before .before .before .before .before .args in
     let full = c .before .before .size .result in
     let i = getD (a .helpers .now) (c .before .loop .j) 0 in
-    (i * full + full ≤ length (a .nodes .now)) × (length (a .nodes .now) ≤ 737280) × (c .before .loop .j * a .g .share + a .g .share ≤ length (c .before .loop .out))
-    × (length (c .before .loop .out) ≤ 8847360) × (a .g .share ≡ messageSize (a .g .shape) (a .dead .now))
+    (i * full + full ≤ length (a .nodes .now)) × (length (a .nodes .now) ≤ mostNodes * mostSize) × (c .before .loop .j * a .g .share + a .g .share ≤ length (c .before .loop .out))
+    × (length (c .before .loop .out) ≤ mostNodes * mostNodes * mostSize) × (a .g .share ≡ messageSize (a .g .shape) (a .dead .now))
 within c =
     let st = c .before .before .before .before .before .before .before in
     let a = st .args in
@@ -57,7 +57,7 @@ within c =
       rw (e, st .pre .1 .0) (row-within _ _ _ i-low),
       omega (arith, st .pre .1 .0, mul-le-mul (h .n-high) (h .size-high)),
       rw (l .inv .2, st .pre .1 .1, s) (row-within _ _ _ j-low),
-      rw (l .inv .2, st .pre .1 .1) (mul-le-mul {n₂ = 144} {m₂ = 61440} (omega (arith, h .n-high, rising-fits _ _ (st .pre .0 .2))) (share-high R)),
+      rw (l .inv .2, st .pre .1 .1) (mul-le-mul {n₂ = mostNodes * mostNodes} {m₂ = mostSize} (omega (arith, h .n-high, rising-fits _ _ (st .pre .0 .2))) (share-high R)),
       s,
     )
 

@@ -7,6 +7,7 @@ use lib.Bits.{bitXor}
 use lib.ListN.{length, getD, length-set}
 use Rattle.lists.specs.Lists.{element}
 use Rattle.lists.proofs.Stores.{stored-more}
+use Rattle.shape.specs.Shape.{mostNodes}
 use Rattle.shape.proofs.Accepted.{shape-accepted}
 use Rattle.rows.specs.Rows.{mostPlaces}
 use Rattle.classes.specs.Classes.{rankClass}
@@ -32,7 +33,7 @@ loop-holds c = (omega arith, refl, λ k h. absurd (omega arith))
 -- the run is within the class
 inside : (c : tie.In-loop Inv-loop μ-loop) →
     let a = c .before .before .before .before .before .args in
-    (a .first + c .before .loop .t < length (a .class .now)) × (a .first + c .before .loop .t < 4096)
+    (a .first + c .before .loop .t < length (a .class .now)) × (a .first + c .before .loop .t < 2 ^ mostNodes)
 inside c =
     let st = c .before .before .before .before .before in
     let p = st .pre in

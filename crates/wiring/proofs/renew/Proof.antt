@@ -7,8 +7,8 @@ use native.Mathlib.Omega.{arith}
 use borrow.Author.Needs.{needs}
 use lib.ListN.{length, getD, take, drop, length-take, length-drop}
 use Rattle.lists.specs.Lists.{piece}
-use Rattle.shape.specs.Shape.{size}
-use Rattle.shape.proofs.Accepted.{shape-accepted}
+use Rattle.shape.specs.Shape.{size, mostNodes}
+use Rattle.shape.proofs.Accepted.{shape-accepted, mostSize}
 use Rattle.classes.specs.Classes.{node, messageSize}
 use Rattle.wiring.specs.Wires.{fromOthers}
 use Rattle.classes.proofs.Layouts.{ready-dead, node-high, bounded, share-high}
@@ -40,7 +40,7 @@ sub-part c = c .before .before .before .before .pre .0 .some
 mul-part : tie.Need-mul-part Inv-loop μ-loop
 mul-part c =
     let R = c .before .before .before .before .before .pre .0 in
-    rw (R .share-is) (omega (arith, mul-le-mul {n₁ = length (c .before .before .before .before .before .args .dead .now) - 1} {n₂ = 12} {m₂ = 61440} (omega (arith, bounded R .dead-high)) (share-high R)))
+    rw (R .share-is) (omega (arith, mul-le-mul {n₁ = length (c .before .before .before .before .before .args .dead .now) - 1} {n₂ = mostNodes} {m₂ = mostSize} (omega (arith, bounded R .dead-high)) (share-high R)))
 
 loop-holds : tie.Need-loop-holds Inv-loop μ-loop
 loop-holds c = (omega arith, refl, renewing-none _ _ _ _)
@@ -51,8 +51,8 @@ within : (c : tie.In-loop Inv-loop μ-loop) →
     let l = c .before .loop in
     let i = getD (a .dead .now) (l .u) 0 in
     let size = (length (a .dead .now) - 1) * a .g .share in
-    (i * c .before .before .before .size .result + c .before .before .before .size .result ≤ length (l .nodes)) × (length (l .nodes) ≤ 737280)
-    × (length (a .dead .now) * a .told + l .u * size + size ≤ length (a .wire .now)) × (length (a .wire .now) ≤ 17694720)
+    (i * c .before .before .before .size .result + c .before .before .before .size .result ≤ length (l .nodes)) × (length (l .nodes) ≤ mostNodes * mostSize)
+    × (length (a .dead .now) * a .told + l .u * size + size ≤ length (a .wire .now)) × (length (a .wire .now) ≤ 2 * (mostNodes * mostNodes * mostSize))
 unfolding node
 within c =
     let st = c .before .before .before .before .before .before .before in
@@ -65,7 +65,7 @@ within c =
     let r = room st in
     let H = length (a .dead .now) in
     let M = messageSize (a .g .shape) (a .dead .now) in
-    let m : H * (H - 1) * M ≤ 144 * 61440 = mul-le-mul {n₂ = 144} {m₂ = 61440} (mul-le-mul {n₂ = 12} {m₂ = 12} (omega (arith, bounded R .dead-high)) (omega (arith, bounded R .dead-high))) (share-high R) in (
+    let m : H * (H - 1) * M ≤ mostNodes * mostNodes * mostSize = mul-le-mul {n₂ = mostNodes * mostNodes} {m₂ = mostSize} (mul-le-mul {n₂ = mostNodes} {m₂ = mostNodes} (omega (arith, bounded R .dead-high)) (omega (arith, bounded R .dead-high))) (share-high R) in (
       rw (c .before .before .before .size .ensures, l .inv .2 .long, st .pre .2) (row-within _ _ _ i-low),
       omega (arith, l .inv .2 .long, st .pre .2, mul-le-mul (h .n-high) (h .size-high)),
       rw (st .pre .3, R .share-is, ← (r .all)) (omega (arith, row-within H ((H - 1) * M) (l .u) u-low)),

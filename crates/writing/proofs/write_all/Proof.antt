@@ -1,8 +1,9 @@
 -- `writing::write_all` meets its contract. Assumes nothing.
 use mathlib.Core.Path.{_≡_, refl, sym, ap, _∙_}
-use Prim.Native.Nat.{ℕ, _+_, _*_, _≤_, _<_, _^_}
+use Prim.Native.Nat.{ℕ, _+_, _*_, _≤_, _<_}
 use native.Mathlib.Nat.{mul-le-mul-right, mul-le-mul}
 use native.Mathlib.Omega.{arith}
+use borrow.Author.Needs.{needs}
 use lib.Arith.{digits-lt}
 use lib.ListN.{length, getD}
 use lib.Seq.{length-take-le}
@@ -10,13 +11,12 @@ use mathlib.Core.List.{List}
 use Rattle.lists.specs.Lists.{range}
 use Rattle.lists.proofs.Tests.{at-all-below}
 use Rattle.lists.proofs.Tables.{range-at}
-use Rattle.shape.specs.Shape.{size, byteValues, mostNodes, mostLayers}
-use Rattle.shape.proofs.Accepted.{shape-accepted}
+use Rattle.shape.specs.Shape.{size, byteValues, mostNodes}
+use Rattle.shape.proofs.Accepted.{shape-accepted, mostSize}
 use Rattle.code.specs.Code.{narrow}
 use Rattle.code.specs.Archive.{written}
 use Rattle.code.proofs.Written.{padding, padded-length, padded-at, written-given}
 use Rattle.code.proofs.Accepted.{WriteAccepted, write-accepted}
-use Rattle.code.proofs.Writing.{first-nodes}
 use Rattle.shape.specs.declared.Shape.{Shape}
 use Rattle.filling.specs.Filling.{Fillable, Filled, Everywhere}
 use Rattle.writing.specs.Steps.{DataStored}
@@ -32,12 +32,12 @@ few : (c : tie.After-slice-known) → c .before .before .args .s .k ≤ mostNode
 few c = let shaped = shape-accepted _ (able c .shape) in omega (arith, shaped .k-high, shaped .n-high)
 
 -- the data nodes lie in the buffer
-room : (c : tie.After-slice-known) (each : ℕ) → let a = c .before .before .args in each ≡ size (a .s) → (a .s .k * each ≤ length (a .nodes .now)) × (a .s .k * each ≤ mostNodes * (mostLayers * 2 ^ mostNodes))
+room : (c : tie.After-slice-known) (each : ℕ) → let a = c .before .before .args in each ≡ size (a .s) → (a .s .k * each ≤ length (a .nodes .now)) × (a .s .k * each ≤ mostNodes * mostSize)
 room c each e =
     let w = able c in
     let shaped = shape-accepted _ (w .shape) in (
       omega (arith, w .whole ∙ ap (λ k. c .before .before .args .s .n * k) (sym e), mul-le-mul-right each (let z : c .before .before .args .s .k ≤ c .before .before .args .s .n = omega (arith, shaped .k-high) in z)),
-      omega (arith, mul-le-mul (few c) (let z : each ≤ mostLayers * 2 ^ mostNodes = rw e (shaped .size-high) in z)),
+      omega (arith, mul-le-mul (few c) (let z : each ≤ mostSize = rw e (shaped .size-high) in z)),
     )
 
 -- with the data nodes written, the others can be filled in, and give what is written
@@ -63,31 +63,31 @@ module _ (c : tie.After-slice-known) (nodes : List ℕ) (put : let a = c .before
 
 size-requires : tie.Need-size-requires
 size-requires c κs =
-    able c .shape
+    able (c .before) .shape
 
 mul-store-data : tie.Need-mul-store-data
 mul-store-data c =
-    let w = able (c .before) in
-    omega (arith, room (c .before) _ (c .size .ensures) .1, w .able .room)
+    let w = able (c .before .before) in
+    omega (arith, room (c .before .before) _ (c .size .ensures) .1, w .able .room)
 
 store-data-requires : tie.Need-store-data-requires
 store-data-requires c κs =
-    let w = able (c .before .before) in
+    let w = able (c .before .before .before) in
     let e = c .before .size .ensures in
-    (rw e (w .able .room), room (c .before .before) _ e .0)
+    (rw e (w .able .room), room (c .before .before .before) _ e .0)
 
 array-share-prefix-all : tie.Need-array-share-prefix-all
 array-share-prefix-all c =
-    few (c .before .before .before .before .before)
+    omega (arith, c .before .before .before .before .before .node-numbers .ensures .0, few (c .before .before .before .before .before .before))
 
 slice-aggregate-fill : tie.Need-slice-aggregate-fill
 slice-aggregate-fill c =
-    sym (length-take-le _ _ (few (c .before .before .before .before .before .before)))
+    sym (length-take-le _ _ (omega (arith, c .before .before .before .before .before .before .node-numbers .ensures .0, few (c .before .before .before .before .before .before .before))))
 
 fill-requires : tie.Need-fill-requires
 fill-requires c κs =
-    let w = able (c .before .before .before .before .before .before .before) in
-    (w .shape, rw (first-nodes _ (few (c .before .before .before .before .before .before .before))) (fillable (c .before .before .before .before .before .before .before) _ (rw (c .before .before .before .before .before .before .size .ensures) at (c .before .before .before .before .store-data .ensures))))
+    let w = able (c .before .before .before .before .before .before .before .before) in
+    (w .shape, rw (c .before .before .before .before .before .before .before .node-numbers .ensures .1 _ (few (c .before .before .before .before .before .before .before .before))) (fillable (c .before .before .before .before .before .before .before .before) _ (rw (c .before .before .before .before .before .before .size .ensures) at (c .before .before .before .before .store-data .ensures))))
 
 same-length : tie.Need-same-length
 same-length c =
@@ -96,12 +96,13 @@ same-length c =
 returns : tie.Need-returns
 unfolding written
 returns c =
-    (refl, filled (c .before .before .before .before .before .before .before .before .before .before) _ (rw (c .before .before .before .before .before .before .before .before .before .size .ensures) at (c .before .before .before .before .before .before .before .store-data .ensures)) _ (rw (first-nodes _ (few (c .before .before .before .before .before .before .before .before .before .before))) at (c .before .before .fill .ensures)))
+    (refl, filled (c .before .before .before .before .before .before .before .before .before .before .before) _ (rw (c .before .before .before .before .before .before .before .before .before .size .ensures) at (c .before .before .before .before .before .before .before .store-data .ensures)) _ (rw (c .before .before .before .before .before .before .before .before .before .before .node-numbers .ensures .1 _ (few (c .before .before .before .before .before .before .before .before .before .before .before))) at (c .before .before .fill .ensures)))
 
 pub write-all-spec : {M : Type 1} → statement M
 write-all-spec =
     tie.close
     (tie.spec
+    (λ c κs. search needs)
     size-requires
     mul-store-data
     store-data-requires
