@@ -33,7 +33,7 @@ extern "C" {
 
 /* The refusals, that is, the causes for which calls turn back. The comments of the calls name them by their numbers. There is no 8. */
 
-/* n outside 3 to 12, k outside 1 to n-2, or layers outside 1 to 15. */
+/* n outside 3 to 14, k outside 1 to n-2, or layers outside 1 to 15. */
 #define HMSR_BAD_SHAPE 1
 
 /* A node not below n; a list not strictly rising, or of the wrong count; dead nodes fewer than 1 or more than n-k-1, or dead and helpers
@@ -59,7 +59,7 @@ extern "C" {
 static inline const char *hmsr_refusal_text(size_t number) {
     switch (number) {
     case 0: return "no refusal";
-    case HMSR_BAD_SHAPE: return "there must be 3 to 12 nodes, 1 to nodes - 2 data nodes and 1 to 15 layers";
+    case HMSR_BAD_SHAPE: return "there must be 3 to 14 nodes, 1 to nodes - 2 data nodes and 1 to 15 layers";
     case HMSR_BAD_NODES: return "the node lists are not as they should be";
     case HMSR_PART_BATCH: return "the number of layers is not a multiple of the layers of a batch";
     case HMSR_WRONG_LENGTH: return "a buffer is not of the exact length, or the transcript is too long";
@@ -75,7 +75,7 @@ static inline const char *hmsr_refusal_text(size_t number) {
 /* N = layers * 2^n, the symbols of a node; 0 where a call would turn back with 1. All nodes have n * N symbols, and a transcript at most
  * k * N bytes. */
 static inline size_t hmsr_node_symbols(size_t n, size_t k, size_t layers) {
-    if (n < 3 || n > 12 || k < 1 || k > n - 2 || layers < 1 || layers > 15) return 0;
+    if (n < 3 || n > 14 || k < 1 || k > n - 2 || layers < 1 || layers > 15) return 0;
     return layers << n;
 }
 
@@ -104,7 +104,7 @@ static inline size_t hmsr_card_room(size_t n, size_t k, size_t layers) {
 #define HMSR_HEADER 5
 
 /* The least length of a text buffer of hmsr_plan. */
-#define HMSR_PLAN_TEXT 1339
+#define HMSR_PLAN_TEXT 2049
 
 /* The calls. */
 

@@ -1,6 +1,6 @@
 #!/usr/bin/env python3
-"""What rust/tests/stored.rs must print for cards, and the program crates/numbers_test for the numbers in them, worked out from document 01
-("Cards", "Shape and symbols", "When a call turns back") alone.
+"""What rust/tests/stored.rs must print for cards, and the program crates/numbers_test for the numbers in them, worked
+out from documents 01 ("Cards", "Shape and symbols", "When a call turns back") and 02 (§7) alone.
 
     python3 tests/card_expected.py > tests/stored/card.txt
     python3 tests/card_expected.py numbers > crates/numbers_test/stdout
@@ -14,8 +14,9 @@ SAMPLE = bytes([3, 1, 1, 1, 2, 253, 1, 247, 1, 0, 0, 0, 0, 0, 0])
 BYTES = [0, 1, 3, 128, 129, 255]
 SYMBOLS = [0, 1, 127, 128, 255, 256, 257, 16383, 16384, 65535]
 LAYERS = [0, 1, 2, 15, 16]
-NODES = [0, 1, 2, 3, BIG]
+NODES = [0, 1, 2, 3, 13, 14, BIG]
 LENGTHS = [0, 8, 9, 127, BIG]
+PLACES = [0, 1, 2, 3, 4, 5, 14, 15]
 
 
 # ---- the paper
@@ -30,8 +31,9 @@ def numeral(v):
 
 
 def number(data, at):
-    """(value, place behind it), or None: only the shortest form is read, of at most three groups."""
-    for size in (1, 2, 3):
+    """(value, place behind it), or None: only the shortest form is read, and "the card's number reading accepts up to
+    four" groups (document 02 §7)."""
+    for size in (1, 2, 3, 4):
         form = data[at:at + size]
         if len(form) == size and form[-1] < 128 and all(b > 127 for b in form[:-1]):
             value = sum((b & 127) << (7 * i) for i, b in enumerate(form))
@@ -40,7 +42,8 @@ def number(data, at):
 
 
 def header_cause(n, k, layers, node, length):
-    if not (3 <= n <= 12 and 1 <= k <= n - 2 and 1 <= layers <= 15):
+    # "n may be 3 to 14" (document 02 §7)
+    if not (3 <= n <= 14 and 1 <= k <= n - 2 and 1 <= layers <= 15):
         return 1
     if not node < n:
         return 2
@@ -148,22 +151,37 @@ def rooms(t, i):
     t.unpack(SAMPLE, i)
 
 
-def formed(t, i):
-    count = i // 8 % 4 + 1
-    at = [0, 1, 2, 3, 4, 5, 14, 15][i % 8]
-    code = i // 32
-    form = bytes(BYTES[code // 6 ** j % 6] for j in range(count))
+def with_form(t, at, form):
     t.unpack(SAMPLE[:at] + form + SAMPLE[at + 1:], 8)
 
 
+def coded(code, count):
+    return bytes(BYTES[code // 6 ** j % 6] for j in range(count))
+
+
+def formed(t, i):
+    with_form(t, PLACES[i % 8], coded(i // 40, i // 8 % 5 + 1))
+
+
 def headed(t, i):
-    header = [i % 15, i // 15 % 13, LAYERS[i // 195 % 5], NODES[i // 975 % 5], LENGTHS[i // 4875 % 5]]
+    header = [i % 17, i // 17 % 15, LAYERS[i // 255 % 5], NODES[i // 1275 % 7], LENGTHS[i // 8925]]
     t.unpack(bytes(x % 256 for x in header) + SAMPLE[5:], 8)
 
 
+def lengthy(i):
+    """A header of thirteen or fourteen nodes, its length at the limit or at the ends of the numbers of four groups:
+    "Transcript lengths may now need four groups"."""
+    n, k, layers = 13 + i % 2, 1 + i // 2 % 12, 1 + i // 24 % 15
+    most = k * layers * 2 ** n
+    return [n, k, layers, n - 1, [most - 1, most, most + 1, 2097151, 2097152, 268435455][i // 360]]
+
+
+def lengths(t, i):
+    t.unpack(b''.join(map(numeral, lengthy(i))) + SAMPLE[5:], 8)
+
+
 def placed(t, i):
-    data = bytes([BYTES[i % 6], BYTES[i // 6 % 6], BYTES[i // 36 % 6], BYTES[i // 216 % 6]])
-    t.read(data[:i // 1296 % 5], [0, 1, 2, 3, 4, 5, BIG][i // 6480])
+    t.read(coded(i, 5)[:i // 7776 % 6], [0, 1, 2, 3, 4, 5, 6, BIG][i // 46656])
 
 
 def paired(t, i):
@@ -171,10 +189,15 @@ def paired(t, i):
 
 
 def pack_headed(t, i):
-    header = [[*range(14), BIG][i % 15], i // 15 % 13, LAYERS[i // 195 % 5], NODES[i // 975 % 5], LENGTHS[i // 4875 % 5]]
+    n = [*range(16), BIG][i % 17]
+    header = [n, i // 17 % 15, LAYERS[i // 255 % 5], NODES[i // 1275 % 7], LENGTHS[i // 8925 % 5]]
     symbols = [256] * 8
-    symbols[5] += i // 24375 % 2
-    t.pack(header, symbols, 30 + i // 48750)
+    symbols[5] += i // 44625 % 2
+    t.pack(header, symbols, 30 + i // 89250)
+
+
+def pack_lengths(t, i):
+    t.pack(lengthy(i), [256] * 8, 31)
 
 
 def pack_symbols(t, i):
@@ -187,16 +210,26 @@ def pack_rooms(t, i):
     t.pack([3, 1, 1, 1, 2], [257] * (i % 11), i // 11)
 
 
-def largest():
+def ends(groups):
+    """The smallest and the largest number of so many groups, in each place."""
     t = Tally()
-    symbols = [i % 257 for i in range(61440)]
-    cause, card = pack([12, 10, 15, 11, 614400], symbols, 122895)
+    for value in (128 ** (groups - 1) if groups > 1 else 0, 128 ** groups - 1):
+        for at in PLACES:
+            with_form(t, at, numeral(value))
+    t.line(f'ends-{groups}')
+
+
+def largest(name, header):
+    t = Tally()
+    size = header[2] * 2 ** header[0]
+    room = 15 + 2 * size
+    cause, card = pack(header, [i % 257 for i in range(size)], room)
     assert cause == 0
-    t.mix(len(card), *card, *[170] * (122895 - len(card)))
-    back = t.unpacked(card, [7] * 61440)
+    t.mix(len(card), *card, *[170] * (room - len(card)))
+    back = t.unpacked(card, [7] * size)
     t.mix(*back)
     t.mix(*t.unpacked(card[:-1], back))
-    t.line('largest')
+    t.line(name)
 
 
 def run(groups):
@@ -208,13 +241,18 @@ def run(groups):
 
 
 def cards():
-    run([(cut, 16), (changed, 3840), (twice, 1296), (rooms, 25), (formed, 41472), (headed, 24375),
-         (pack_headed, 97500), (pack_symbols, 80), (pack_rooms, 539)])
-    largest()
+    run([(cut, 16), (changed, 3840), (twice, 1296), (rooms, 25), (formed, 311040)])
+    for groups in range(1, 6):
+        ends(groups)
+    run([(headed, 44625), (lengths, 2160), (pack_headed, 178500), (pack_lengths, 2160), (pack_symbols, 80),
+         (pack_rooms, 539)])
+    # "Cards accepted until now read as before" (document 02 §7): the largest until now, and the largest
+    largest('twelve', [12, 10, 15, 11, 614400])
+    largest('fourteen', [14, 12, 15, 13, 2949120])
 
 
 def numbers():
-    run([(placed, 45360), (paired, 65536)])
+    run([(placed, 373248), (paired, 65536)])
 
 
 if sys.argv[1:] == ['numbers']:

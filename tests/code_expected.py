@@ -1,5 +1,6 @@
 #!/usr/bin/env python3
-"""What rust/tests/stored.rs must print for archives, from document 01 alone; it shares no code with the archive.
+"""What rust/tests/stored.rs must print for archives, from documents 01 and 02 (§7) alone; it shares no code with the
+archive.
 
     python3 tests/code_expected.py > tests/stored/code.txt
 
@@ -9,11 +10,15 @@ parity equations are sums as document 01 writes them.
 from functools import lru_cache
 
 Q = 257
-P = [1, 3, 9, 27, 81, 243, 215, 131, 136, 151, 196, 74]
+# "The twelve points", and "the points for nodes 12 and 13 are 222 and 152" (document 02 §7).
+P = [1, 3, 9, 27, 81, 243, 215, 131, 136, 151, 196, 74, 222, 152]
+# n, k, L and the length of the transcript.
 SHAPES = [
     (3, 1, 1, 0), (3, 1, 1, 2), (3, 1, 1, 8), (3, 1, 15, 100), (4, 1, 3, 48), (4, 2, 2, 37), (5, 1, 1, 32),
     (5, 3, 2, 191), (6, 1, 2, 64), (6, 4, 3, 700), (7, 2, 1, 256), (7, 5, 1, 1), (8, 5, 15, 19200), (9, 1, 1, 512),
     (9, 7, 1, 3584), (10, 4, 1, 3000), (11, 9, 2, 36864), (12, 1, 1, 4095), (12, 6, 1, 20000), (12, 10, 1, 40960), (12, 7, 15, 430000),
+    (13, 1, 1, 8192), (13, 6, 1, 40001), (13, 11, 1, 90111), (14, 1, 1, 16383), (14, 2, 1, 30001), (14, 7, 2, 229376),
+    (14, 12, 1, 196608), (14, 12, 15, 2949120),
 ]
 
 
@@ -24,7 +29,8 @@ def point(i, a):
 
 
 def shape_bad(n, k, layers):
-    return not (3 <= n <= 12 and 1 <= k <= n - 2 and 1 <= layers <= 15)
+    # "n may be 3 to 14" (document 02 §7), "k is 1 to n−2", "L .. is 1 to 15".
+    return not (3 <= n <= 14 and 1 <= k <= n - 2 and 1 <= layers <= 15)
 
 
 @lru_cache(maxsize=None)
@@ -246,6 +252,7 @@ def say(numbers):
 def main():
     for c, (n, k, layers, length) in enumerate(SHAPES):
         say(Archive((n, k, layers), length, c + 1).line())
+        recovery.cache_clear()
 
 
 if __name__ == '__main__':

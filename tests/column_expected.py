@@ -39,8 +39,9 @@ def completed(q, points, known):
 def size_digest(q, m):
     seed, digest = following(m), 0
     for _ in range(60):
-        step = 1 + seed // 16 % 20
-        base = seed // 4096 % (q - 12 * step)
+        # Fifteen points, base to base + 14 * step, are below 257.
+        step = 1 + seed // 16 % 18
+        base = seed // 4096 % (q - 14 * step)
         points = [base + i * step for i in range(m)]
         chosen = [i for i in range(m) if (seed >> (8 + i)) % 2 == 0]
         known, draw = {}, seed
@@ -53,6 +54,8 @@ def size_digest(q, m):
     return digest
 
 
+# "n may be 3 to 14" (document 02 §7), and the equations of a repair have one point more: a new node's own two symbols
+# have one each.
 for q in (257, 65537):
-    for m in range(3, 14):
+    for m in range(3, 16):
         print(q, m, size_digest(q, m))

@@ -1,16 +1,18 @@
 #!/usr/bin/env python3
-"""What rust/tests/stored.rs must print for the plan, worked out from document 01 ("The plan program", "Repair", "Cards", "When a call turns back") alone.
+"""What rust/tests/stored.rs must print for the plan, worked out from documents 01 ("The plan program", "Repair", "Cards",
+"When a call turns back") and 02 (§7) alone.
 
     python3 tests/plan_expected.py > tests/stored/plan.txt
 
-It shares nothing with the Rattle code or its definitions. ROOM is the size that the call asks of a text buffer, the one number here that
-is not document 01's.
+It shares nothing with the Rattle code or its definitions. ROOM is the size that the call asks of a text buffer, the one
+number here that is not a document's.
 """
 
-ROOM = 1339
+# At n = 14, k = 1, h = 12: line 1 and 12 * 13 transfers of at most 13 bytes, and a total of at most 8.
+ROOM = 2049
 SAMPLE = bytes([4, 1, 3, 2, 0, 1, 2, 3])
 BYTES = [0, 1, 3, 128, 129, 255]
-LAYERS = [0, 1, 2, 3, 15, 16]
+LAYERS = [0, 1, 2, 3, 13, 15, 16]
 
 
 # ---- the paper
@@ -25,8 +27,9 @@ def numeral(v):
 
 
 def number(data, at):
-    """(value, place behind it), or None: only the shortest form is read, of at most three groups."""
-    for size in (1, 2, 3):
+    """(value, place behind it), or None: only the shortest form is read, and "the card's number reading accepts up to
+    four" groups (document 02 §7)."""
+    for size in (1, 2, 3, 4):
         form = data[at:at + size]
         if len(form) == size and form[-1] < 128 and all(b > 127 for b in form[:-1]):
             value = sum((b & 127) << (7 * i) for i, b in enumerate(form))
@@ -51,7 +54,8 @@ def text(data):
     if first is None:
         return refused(6)
     (n, k, layers, h), at = first
-    if not (3 <= n <= 12 and 1 <= k <= n - 2 and 1 <= layers <= 15):
+    # "n may be 3 to 14" (document 02 §7)
+    if not (3 <= n <= 14 and 1 <= k <= n - 2 and 1 <= layers <= 15):
         return refused(1)
     if not 1 <= h <= n - k - 1:
         return refused(2)
@@ -125,12 +129,12 @@ def changed(i):
 
 
 def spliced(i):
-    at, count = i % 9, i // 9 % 4 + 1
-    return SAMPLE[:at] + code(i // 36, count) + SAMPLE[at + 1:]
+    at, count = i % 9, i // 9 % 5 + 1
+    return SAMPLE[:at] + code(i // 45, count) + SAMPLE[at + 1:]
 
 
 def fronts(i):
-    n, k, layers, h = i % 15, i // 15 % 13, LAYERS[i // 195 % 6], i // 1170
+    n, k, layers, h = i % 17, i // 17 % 15, LAYERS[i // 255 % 7], i // 1785
     return bytes([n, k, layers, h, *range(h + k + 1)])
 
 
@@ -144,21 +148,31 @@ def orders(i):
 
 
 def long(i):
-    return (bytes([12, 1, 11, 10]) + bytes([129, 129, 1]) * 20)[:i]
+    return (bytes([14, 1, 13, 12]) + bytes([129, 129, 129, 1]) * 20)[:i]
+
+
+IN_FULL = [
+    [5, 1, 4, 3, 1, 2, 4, 0, 3],
+    [12, 10, 15, 1, 3, 0, 1, 2, 4, 5, 6, 7, 8, 9, 10, 11],
+    [12, 1, 11, 10, *range(12)],
+    [14, 1, 13, 12, *range(14)],
+    [14, 2, 3, 11, 0, 1, 2, 4, 5, 6, 7, 9, 10, 11, 13, 3, 8, 12],
+    [14, 12, 15, 1, 13, *range(13)],
+]
 
 
 def main():
-    groups = [(cut, 10), (changed, 2048), (spliced, 46656), (fronts, 16380), (lists, 12288), (orders, 3888), (long, 60)]
+    groups = [(cut, 10), (changed, 2048), (spliced, 349920), (fronts, 28560), (lists, 12288), (orders, 3888), (long, 80)]
     for group, cases in groups:
         t = Tally()
         for i in range(cases):
             t.plan(group(i), ROOM + i % 5)
         t.line(group.__name__)
     t = Tally()
-    for i in range(1344):
+    for i in range(ROOM + 5):
         t.plan(SAMPLE, i)
     t.line('rooms')
-    for data in ([5, 1, 4, 3, 1, 2, 4, 0, 3], [12, 10, 15, 1, 3, 0, 1, 2, 4, 5, 6, 7, 8, 9, 10, 11], [12, 1, 11, 10, *range(12)]):
+    for data in IN_FULL:
         print(text(bytes(data))[1].decode(), end='')
 
 

@@ -1,5 +1,6 @@
 #!/usr/bin/env python3
-"""What rust/tests/stored.rs must print for whole repairs, from document 01's "Repair" alone; it shares no code with the archive.
+"""What rust/tests/stored.rs must print for whole repairs, from document 01's "Repair" and document 02 §7 alone; it
+shares no code with the archive.
 
     python3 tests/repair_expected.py > tests/stored/repair.txt
 
@@ -10,7 +11,8 @@ from functools import lru_cache
 from itertools import combinations
 
 Q = 257
-P = [pow(3, i, Q) for i in range(12)]
+# "The powers of 3", 222 and 152 for nodes 12 and 13 too (document 02 §7).
+P = [pow(3, i, Q) for i in range(14)]
 
 
 def point(i, a):
@@ -260,6 +262,9 @@ LARGE = [
     (10, 2, 7, 15, 3, 1), (11, 1, 9, 15, 2, 1), (12, 10, 1, 15, 2, 1), (12, 2, 9, 15, 2, 1),
     (3, 1, 1, 1, 3, 0), (4, 1, 2, 3, 6, 0), (5, 1, 3, 2, 5, 0), (6, 2, 2, 6, 5, 0), (7, 1, 4, 15, 5, 0), (8, 2, 5, 6, 5, 0),
     (9, 1, 6, 14, 3, 0), (10, 2, 7, 4, 3, 0), (11, 2, 8, 9, 2, 0), (12, 1, 10, 11, 1, 0), (12, 5, 5, 15, 1, 0),
+    # "Exact repair and its total cover the new sizes" (document 02 §7); h = 11 and h = 12 are new with them.
+    (13, 1, 11, 3, 2, 1), (14, 1, 11, 3, 1, 1), (14, 2, 11, 3, 2, 1), (14, 1, 12, 13, 1, 1), (13, 5, 7, 1, 2, 1),
+    (14, 10, 3, 1, 2, 1), (14, 12, 1, 1, 2, 1), (13, 1, 11, 6, 1, 0), (14, 2, 11, 3, 1, 0),
 ]
 
 

@@ -1,4 +1,4 @@
-//! An archive of a transcript, spread over 3 to 12 nodes (drives) of which any k give it back, and whose lost nodes
+//! An archive of a transcript, spread over 3 to 14 nodes (drives) of which any k give it back, and whose lost nodes
 //! are refilled together by small messages.
 //!
 //! Every call here hands its arguments to a static library of proved functions and gives back what they answer: it

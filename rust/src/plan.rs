@@ -4,7 +4,7 @@ use crate::refusal::found;
 use crate::{Refusal, Repair, Shape};
 
 /// The bytes that a text buffer has at least.
-pub const PLAN_TEXT: usize = 1339;
+pub const PLAN_TEXT: usize = 2049;
 
 /// Puts the plan for an input into a text buffer of at least [`PLAN_TEXT`] bytes, and gives the text's length; the
 /// bytes behind it are as they were. An input that is refused has a plan too: one line with the refusal's number.

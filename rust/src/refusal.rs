@@ -61,7 +61,7 @@ impl Refusal {
 impl fmt::Display for Refusal {
     fn fmt(&self, f: &mut fmt::Formatter<'_>) -> fmt::Result {
         f.write_str(match self {
-            Refusal::BadShape => "there must be 3 to 12 nodes, 1 to nodes - 2 data nodes and 1 to 15 layers",
+            Refusal::BadShape => "there must be 3 to 14 nodes, 1 to nodes - 2 data nodes and 1 to 15 layers",
             Refusal::BadNodes => "the node lists are not as they should be",
             Refusal::PartBatch => "the number of layers is not a multiple of the layers of a batch",
             Refusal::WrongLength => "a buffer is not of the exact length, or the transcript is too long",

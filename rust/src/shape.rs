@@ -7,7 +7,7 @@ use crate::Refusal;
 #[derive(Clone, Copy, Debug, PartialEq, Eq, Hash)]
 #[must_use]
 pub struct Shape {
-    /// n, the number of nodes: 3 to 12.
+    /// n, the number of nodes: 3 to 14.
     pub nodes: usize,
     /// k, the number of nodes that give the transcript back: 1 to n - 2.
     pub data: usize,
@@ -20,8 +20,9 @@ impl Shape {
     ///
     /// ```
     /// use hmsr::{Refusal, Shape};
-    /// assert!(Shape::new(12, 6, 15).is_ok());
-    /// assert_eq!(Shape::new(12, 11, 15), Err(Refusal::BadShape));
+    /// assert!(Shape::new(14, 12, 15).is_ok());
+    /// assert_eq!(Shape::new(15, 12, 15), Err(Refusal::BadShape));
+    /// assert_eq!(Shape::new(14, 13, 15), Err(Refusal::BadShape));
     /// ```
     ///
     /// # Errors
@@ -41,7 +42,7 @@ impl Shape {
         }
     }
 
-    /// N = layers × 2^nodes, the symbols of a node: at most 61 440.
+    /// N = layers × 2^nodes, the symbols of a node: at most 245 760.
     ///
     /// # Errors
     ///
@@ -63,7 +64,7 @@ impl Shape {
     /// data × N: the symbols of any k nodes, and the bytes of the longest transcript.
     ///
     /// ```
-    /// assert_eq!(hmsr::Shape { nodes: 12, data: 6, layers: 15 }.capacity(), Ok(368_640));
+    /// assert_eq!(hmsr::Shape { nodes: 14, data: 12, layers: 15 }.capacity(), Ok(2_949_120));
     /// ```
     ///
     /// # Errors

@@ -115,6 +115,8 @@ fn layers_are_chosen_to_fit_and_to_be_repaired() {
         (12, 8, "large", 3),
         (12, 7, "large", 15),
         (12, 1, "small", 15),
+        (14, 12, "small", 1),
+        (14, 1, "small", 15),
     ];
     for (nodes, data, file, layers) in expected {
         let report = place.does(&format!("write {file} {nodes}-{data} --nodes {nodes} --data {data}"));
@@ -122,6 +124,19 @@ fn layers_are_chosen_to_fit_and_to_be_repaired() {
         assert!(report.contains(&format!("\n{layers}")), "{nodes} {data}: {report}");
     }
     assert!(place.does("check 12-1").starts_with("sound"));
+    assert!(place.does("check 14-12").starts_with("sound"));
+}
+
+#[test]
+fn eleven_of_fourteen_drives_are_refilled_together() {
+    let place = Place::new("eleven");
+    fs::write(place.path("transcript"), bytes(90_000, 7)).unwrap();
+    place.does("write transcript drives --nodes 14 --data 2 --layers 3");
+    let written = place.contents();
+    place.lose("drives", &[0, 1, 2, 4, 5, 6, 8, 9, 10, 11, 13]);
+    let report = place.does("repair drives");
+    assert!(report.contains("repair of nodes 0, 1, 2, 4, 5, 6, 8, 9, 10, 11, 13 with"), "{report}");
+    assert!(place.contents() == written);
 }
 
 #[test]
@@ -204,14 +219,14 @@ fn shapes_outside_the_ranges_are_refused() {
     let place = Place::with_archive("shapes");
     for shape in [
         "--nodes 2 --data 1",
-        "--nodes 13 --data 3",
+        "--nodes 15 --data 3",
         "--nodes 6 --data 0",
         "--nodes 6 --data 5",
         "--nodes 6 --data 3 --layers 0",
         "--nodes 6 --data 3 --layers 16",
         "--nodes 18446744073709551615 --data 18446744073709551615 --layers 18446744073709551615",
     ] {
-        place.refuses(&format!("write transcript new {shape}"), USAGE, &["refusal 1", "3 to 12"]);
+        place.refuses(&format!("write transcript new {shape}"), USAGE, &["refusal 1", "3 to 14"]);
     }
 }
 
@@ -437,5 +452,7 @@ fn plans_of_no_repair_are_refused() {
     place.refuses("plan --nodes 2 --data 1 --layers 3 --dead 0 --helpers 2,3", USAGE, &["refusal 1"]);
     place.refuses("plan --nodes 3 --data 1 --layers 3 --dead 0,1 --helpers 2", USAGE, &["refusal 2"]);
     place.refuses("plan --nodes 4 --data 1 --layers 1 --dead 0,1 --helpers 2,3", USAGE, &["refusal 3"]);
-    place.refuses("plan --nodes 9999999 --data 1 --layers 1 --dead 0,1 --helpers 2,3", USAGE, &["refusal 6"]);
+    // A number of four groups is read, and is no shape's; one of five is not.
+    place.refuses("plan --nodes 268435455 --data 1 --layers 1 --dead 0,1 --helpers 2,3", USAGE, &["refusal 1"]);
+    place.refuses("plan --nodes 268435456 --data 1 --layers 1 --dead 0,1 --helpers 2,3", USAGE, &["refusal 6"]);
 }

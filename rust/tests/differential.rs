@@ -132,7 +132,7 @@ fn restore() {
                 3 => random.spoil_length(&mut length),
                 4 => random.spoil_length(&mut nodes_length),
                 5 => random.spoil_symbols(&mut symbols),
-                _ => n = 12,
+                _ => n = 14,
             }
         }
         symbols.resize(length, 256);
@@ -373,7 +373,8 @@ fn pack() {
 
 /// A number written in a form that is not the shortest, or too long, or cut.
 fn malformed(random: &mut Random) -> Vec<u8> {
-    let forms: [&[u8]; 5] = [&[128, 0], &[129, 128, 0], &[128, 128, 128, 1], &[255, 255, 255, 255], &[128]];
+    let forms: [&[u8]; 6] =
+        [&[128, 0], &[129, 128, 0], &[129, 128, 128, 0], &[128, 128, 128, 128, 1], &[255, 255, 255, 255, 255], &[128]];
     random.choose(&forms).to_vec()
 }
 
@@ -391,7 +392,10 @@ fn random_card(random: &mut Random, header: Header) -> Vec<u8> {
     let mut malformed_at = None;
     match random.below(6) {
         0 => malformed_at = Some(spoiled(random)),
-        1 => numbers[spoiled(random)] = random.choose(&[0, 13, 16, 257, 16383, 16384, 1 << 20, (1 << 21) - 1]),
+        1 => {
+            let values = [0, 15, 16, 257, 16383, 16384, 1 << 20, (1 << 21) - 1, 1 << 21, (1 << 28) - 1];
+            numbers[spoiled(random)] = random.choose(&values);
+        }
         2 => {
             malformed_at = Some(spoiled(random));
             numbers[spoiled(random)] = 257;
@@ -441,7 +445,7 @@ fn plan() {
         }
         let Lists { shape, dead, helpers } = lists;
         let mut input = Vec::new();
-        let h = if random.once_in(10) { random.below(12) } else { dead.len() };
+        let h = if random.once_in(10) { random.below(14) } else { dead.len() };
         for &number in [shape.n, shape.k, shape.layers, h].iter().chain(&dead).chain(&helpers) {
             naive::card::put_number(&mut input, number);
         }
@@ -463,7 +467,7 @@ fn plan() {
 #[test]
 fn largest_shapes() {
     let mut random = Random::new(1);
-    for (n, k, dead_count) in [(12, 10, 1), (12, 6, 5), (12, 1, 4), (3, 1, 1)] {
+    for (n, k, dead_count) in [(14, 12, 1), (14, 7, 3), (12, 6, 5), (12, 1, 4), (3, 1, 1)] {
         let shape = Shape { n, k, layers: 15 };
         let (size, all) = (shape.symbols(), n * shape.symbols());
         let transcript = random.bytes(shape.capacity());

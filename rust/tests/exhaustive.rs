@@ -212,17 +212,48 @@ fn random_repairs_of_other_symbols() {
     try_random(4, 40, 12, false);
 }
 
+/// A repair of random nodes, so many of them, of a codeword.
+fn try_shape(random: &mut Random, shape: Shape, dead_count: usize) {
+    let (dead, helpers) = random.sets(shape, dead_count);
+    let archive = random.codeword(shape);
+    Repair::new(random, shape, &dead, &helpers, &archive).assert_all(random, Some(&archive));
+}
+
 /// Each h that twelve nodes allow, with as many layers as s allows: s to 11, classes to 7.
 #[test]
 fn every_count_of_dead_nodes() {
     let mut random = Random::new(5);
     for h in 1..=10 {
         let s = batch_layers(h);
-        let shape = Shape { n: 12, k: 3.min(11 - h), layers: 15 / s * s };
-        let dead = random.nodes(shape, h);
-        let living: Vec<usize> = (0..12).filter(|node| !dead.contains(node)).collect();
-        let helpers = random.some_of(&living, shape.k + 1);
+        try_shape(&mut random, Shape { n: 12, k: 3.min(11 - h), layers: 15 / s * s }, h);
+    }
+}
+
+/// Each h that fourteen nodes allow, with one batch of layers: s to 13.
+#[test]
+fn every_count_of_dead_nodes_among_fourteen() {
+    let mut random = Random::new(6);
+    for h in 1..=12 {
+        try_shape(&mut random, Shape { n: 14, k: 3.min(13 - h), layers: batch_layers(h) }, h);
+    }
+}
+
+/// With eleven dead nodes (s = 3, H = 3) classes go by the bits of i_0, i_3 and i_6; with fewer, H is 1 or s is 1, and i_v
+/// would do for i_(s×v). Codewords and other symbols, one batch of layers and more.
+#[test]
+fn eleven_dead_nodes() {
+    let mut random = Random::new(7);
+    for (n, k, layers) in [(13, 1, 3), (13, 1, 6), (14, 1, 3), (14, 2, 3), (14, 2, 9)] {
+        let shape = Shape { n, k, layers };
+        let (dead, helpers) = random.sets(shape, 11);
+        let classes: Vec<usize> = {
+            let repair = naive::repair::Repair::judged(shape, &dead, &helpers).unwrap();
+            (0..11).map(|rank| repair.class_and_partner(rank).0).collect()
+        };
+        assert_eq!(classes, [0, 0, 0, 0, 1, 1, 0, 2, 2, 3, 3]); // Table V of document 004
         let archive = random.codeword(shape);
         Repair::new(&mut random, shape, &dead, &helpers, &archive).assert_all(&mut random, Some(&archive));
+        let symbols = random.symbols(n * shape.symbols());
+        Repair::new(&mut random, shape, &dead, &helpers, &symbols).assert_all(&mut random, None);
     }
 }

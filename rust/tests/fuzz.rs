@@ -90,7 +90,7 @@ fn card(random: &mut Random) -> Vec<u8> {
 fn unpack(random: &mut Random, card: &[u8]) -> usize {
     let announced = naive::card::take_shape(&mut &card[..]).ok();
     let length = match announced {
-        Some(shape) if shape.n <= 12 && shape.layers <= 15 && !random.once_in(20) => shape.symbols(),
+        Some(shape) if shape.n <= 14 && shape.layers <= 15 && !random.once_in(20) => shape.symbols(),
         _ => random.below(100),
     };
     let number = compare::unpack(random, card, length, 5);
@@ -119,7 +119,7 @@ fn plan_input(random: &mut Random) -> Vec<u8> {
     if random.once_in(8) {
         return random_bytes(random);
     }
-    let n = random.between(3, 12);
+    let n = random.between(3, 14);
     let shape = Shape { n, k: random.between(1, n - 2), layers: random.between(1, 15) };
     let (dead, helpers) = random.dead_and_helpers(shape);
     let front = [shape.n, shape.k, shape.layers, dead.len()];

@@ -39,8 +39,8 @@ fn assert_header(output: &str) {
         }
     }
     assert_eq!(lines.next(), None);
-    // k from 1 to n - 2, for n from 3 to 12, each with 15 layers.
-    assert_eq!(shapes, (1..=10).sum::<usize>() * 15);
+    // k from 1 to n - 2, for n from 3 to 14, each with 15 layers.
+    assert_eq!(shapes, (1..=12).sum::<usize>() * 15);
 }
 
 fn assert_constants(lines: &mut Lines) {
@@ -64,7 +64,7 @@ fn text(number: usize) -> String {
 /// The lines of a shape. Gives 1 where it is within the ranges.
 fn assert_sizes(lines: &mut Lines, shape: Shape) -> usize {
     let Shape { nodes, data, layers } = shape;
-    let within = (3..=12).contains(&nodes) && (1..=nodes - 2).contains(&data) && (1..=15).contains(&layers);
+    let within = (3..=14).contains(&nodes) && (1..=nodes - 2).contains(&data) && (1..=15).contains(&layers);
     let size = if within { layers * 2usize.pow(nodes as u32) } else { 0 };
     let room = if within { 15 + 2 * size } else { 0 };
     assert_eq!((shape.node_symbols().unwrap_or(0), shape.card_room().unwrap_or(0)), (size, room));

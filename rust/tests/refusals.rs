@@ -60,7 +60,7 @@ type Cause<T = Input> = (&'static str, usize, fn(&mut T));
 
 const SHAPE: &[Cause] = &[
     ("n is 2", 1, |i| i.shape.nodes = 2),
-    ("n is 13", 1, |i| i.shape.nodes = 13),
+    ("n is 15", 1, |i| i.shape.nodes = 15),
     ("n is 64", 1, |i| i.shape.nodes = 64),
     ("n is 2^32 + 6", 1, |i| i.shape.nodes = (1 << 32) + 6),
     ("n is 2^63", 1, |i| i.shape.nodes = 1 << 63),
@@ -391,36 +391,41 @@ impl Numbers {
 
 const NOT_SHORTEST: &[u8] = &[128, 0];
 const NOT_SHORTEST_OF_THREE: &[u8] = &[129, 129, 0];
-const FOUR_GROUPS: &[u8] = &[129, 129, 129, 1];
+/// 2^21, in the most groups that are read (document 02 §7).
+const FOUR_GROUPS: &[u8] = &[128, 128, 128, 1];
+const FIVE_GROUPS: &[u8] = &[129, 129, 129, 129, 1];
 
 /// "Unpacking judges in this order: the five numbers' form (6), the shape, the node, the length against k × N (6), the
 /// size of the lent buffer, each symbol's form (6) then value (5) in turn, bytes left over (6)."
 const CARD: &[Cause<Numbers>] = &[
     ("n not in shortest form", 6, |c| c.numbers[0] = NOT_SHORTEST.to_vec()),
-    ("k of four groups", 6, |c| c.numbers[1] = FOUR_GROUPS.to_vec()),
+    ("k of five groups", 6, |c| c.numbers[1] = FIVE_GROUPS.to_vec()),
     ("L not in shortest form", 6, |c| c.numbers[2] = NOT_SHORTEST_OF_THREE.to_vec()),
-    ("node of four groups", 6, |c| c.numbers[3] = FOUR_GROUPS.to_vec()),
+    ("node of five groups", 6, |c| c.numbers[3] = FIVE_GROUPS.to_vec()),
     ("length not in shortest form", 6, |c| c.numbers[4] = NOT_SHORTEST.to_vec()),
     ("n is 2", 1, |c| c.numbers[0] = vec![2]),
-    ("n is 13", 1, |c| c.numbers[0] = vec![13]),
+    ("n is 15", 1, |c| c.numbers[0] = vec![15]),
     ("n is 2^21 - 1", 1, |c| c.numbers[0] = vec![255, 255, 127]),
     ("k is 0", 1, |c| c.numbers[1] = vec![0]),
     ("k is n - 1", 1, |c| c.numbers[1] = vec![2]),
+    ("k of four groups", 1, |c| c.numbers[1] = FOUR_GROUPS.to_vec()),
     ("L is 0", 1, |c| c.numbers[2] = vec![0]),
     ("L is 16", 1, |c| c.numbers[2] = vec![16]),
     ("node is n", 2, |c| c.numbers[3] = vec![3]),
     ("node is 256", 2, |c| c.numbers[3] = vec![128, 2]),
+    ("node of four groups", 2, |c| c.numbers[3] = FOUR_GROUPS.to_vec()),
     ("length is k × N + 1", 6, |c| c.numbers[4] = vec![9]),
     ("length is 2^21 - 1", 6, |c| c.numbers[4] = vec![255, 255, 127]),
+    ("length of four groups", 6, |c| c.numbers[4] = FOUR_GROUPS.to_vec()),
     ("symbols' buffer one short", 4, |c| c.symbols_length = 7),
     ("symbols' buffer one long", 4, |c| c.symbols_length = 9),
     ("header's buffer one short", 4, |c| c.header_length = 4),
     ("header's buffer one long", 4, |c| c.header_length = 6),
     ("symbol 0 not in shortest form", 6, |c| c.numbers[5] = NOT_SHORTEST.to_vec()),
     ("symbol 1 is 257", 5, |c| c.numbers[6] = vec![129, 2]),
-    ("symbol 2 of four groups", 6, |c| c.numbers[7] = FOUR_GROUPS.to_vec()),
+    ("symbol 2 of five groups", 6, |c| c.numbers[7] = FIVE_GROUPS.to_vec()),
     ("symbol 3 is 65536", 5, |c| c.numbers[8] = vec![128, 128, 4]),
-    ("symbol 4 is 2^21 - 1", 5, |c| c.numbers[9] = vec![255, 255, 127]),
+    ("symbol 4 of four groups", 5, |c| c.numbers[9] = FOUR_GROUPS.to_vec()),
     ("symbol 5 not in shortest form", 6, |c| c.numbers[10] = NOT_SHORTEST_OF_THREE.to_vec()),
     ("symbol 6 is 16384", 5, |c| c.numbers[11] = vec![128, 128, 1]),
     ("symbol 7 cut short", 6, |c| c.numbers[12] = vec![128]),
@@ -463,27 +468,30 @@ fn every_cut_card_is_refused() {
 /// lists (6), input left over (6), the lists (2), the layers (3)."
 const PLAN: &[Cause<Numbers>] = &[
     ("n not in shortest form", 6, |p| p.numbers[0] = NOT_SHORTEST.to_vec()),
-    ("k of four groups", 6, |p| p.numbers[1] = FOUR_GROUPS.to_vec()),
+    ("k of five groups", 6, |p| p.numbers[1] = FIVE_GROUPS.to_vec()),
     ("L not in shortest form", 6, |p| p.numbers[2] = NOT_SHORTEST_OF_THREE.to_vec()),
-    ("h of four groups", 6, |p| p.numbers[3] = FOUR_GROUPS.to_vec()),
+    ("h of five groups", 6, |p| p.numbers[3] = FIVE_GROUPS.to_vec()),
     ("n is 2", 1, |p| p.numbers[0] = vec![2]),
-    ("n is 13", 1, |p| p.numbers[0] = vec![13]),
+    ("n is 15", 1, |p| p.numbers[0] = vec![15]),
     ("n is 2^21 - 1", 1, |p| p.numbers[0] = vec![255, 255, 127]),
     ("k is 0", 1, |p| p.numbers[1] = vec![0]),
     ("k is n - 1", 1, |p| p.numbers[1] = vec![5]),
     ("L is 0", 1, |p| p.numbers[2] = vec![0]),
     ("L is 16", 1, |p| p.numbers[2] = vec![16]),
+    ("L of four groups", 1, |p| p.numbers[2] = FOUR_GROUPS.to_vec()),
     ("h is 0", 2, |p| p.numbers[3] = vec![0]),
     ("h is n - k", 2, |p| p.numbers[3] = vec![4]),
     ("h is 2^21 - 1", 2, |p| p.numbers[3] = vec![255, 255, 127]),
+    ("h of four groups", 2, |p| p.numbers[3] = FOUR_GROUPS.to_vec()),
     ("a dead node not in shortest form", 6, |p| p.numbers[4] = NOT_SHORTEST.to_vec()),
-    ("a helper of four groups", 6, |p| p.numbers[7] = FOUR_GROUPS.to_vec()),
+    ("a helper of five groups", 6, |p| p.numbers[7] = FIVE_GROUPS.to_vec()),
     ("the last helper cut short", 6, |p| p.numbers[8] = vec![128]),
     ("a byte left over", 6, |p| p.behind = vec![0]),
     ("dead falling", 2, |p| (p.numbers[4], p.numbers[5]) = (vec![4], vec![1])),
     ("dead twice", 2, |p| p.numbers[5] = vec![1]),
     ("node n dead", 2, |p| p.numbers[5] = vec![6]),
     ("node 260 dead", 2, |p| p.numbers[5] = vec![132, 2]),
+    ("a dead node of four groups", 2, |p| p.numbers[5] = FOUR_GROUPS.to_vec()),
     ("helpers falling", 2, |p| (p.numbers[7], p.numbers[8]) = (vec![5], vec![2])),
     ("helper twice", 2, |p| p.numbers[7] = vec![0]),
     ("node n helps", 2, |p| p.numbers[8] = vec![6]),

@@ -5,15 +5,15 @@
 use hmsr::{unpack, Checked, Header, Refusal, Shape};
 use std::thread;
 
-/// The stack of a thread, in bytes. The buffers stand outside; in them an archive takes 1440 KiB, one node 120 KiB.
-const ROOM: usize = 64 * 1024;
+/// The stack of a thread, in bytes. The buffers stand outside; in them an archive takes 6720 KiB, one node 480 KiB.
+const ROOM: usize = 128 * 1024;
 
-/// No archive is larger. With k = 6 and more, writing, checking and restoring work few multipliers out first; with k = 5
-/// they do not, and need more stack.
+/// No archive is larger. With k = 8 and more, writing, checking and restoring work few multipliers out first; with k = 7
+/// they do not.
 const SHAPES: [Shape; 3] = [
-    Shape { nodes: 12, data: 5, layers: 15 },
-    Shape { nodes: 12, data: 6, layers: 15 },
-    Shape { nodes: 12, data: 10, layers: 15 },
+    Shape { nodes: 14, data: 7, layers: 15 },
+    Shape { nodes: 14, data: 8, layers: 15 },
+    Shape { nodes: 14, data: 12, layers: 15 },
 ];
 
 /// Makes a call in a thread with little stack.
@@ -67,7 +67,7 @@ fn written_and_checked() {
         assert_eq!(archive.check(), Checked::Sound);
         let last = archive.nodes.last_mut().unwrap();
         *last = (*last + 1) % 257;
-        assert_eq!(archive.check(), Checked::Unmet { layer: 14, a: 4095, t: 0 });
+        assert_eq!(archive.check(), Checked::Unmet { layer: 14, a: 16383, t: 0 });
     }
 }
 

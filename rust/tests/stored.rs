@@ -1,5 +1,5 @@
-//! The cases whose outcome the programs of `tests/` work out from document 01 alone, run through the library: each line
-//! of a stored file has to come out as it stands there.
+//! The cases whose outcome the programs of `tests/` work out from documents 01 and 02 (§7) alone, run through the
+//! library: each line of a stored file has to come out as it stands there.
 
 mod stored {
     pub mod card;

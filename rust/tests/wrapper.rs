@@ -11,7 +11,7 @@ const CARD: [u8; 15] = [3, 1, 1, 1, 2, 253, 1, 247, 1, 0, 0, 0, 0, 0, 0];
 const NODE_1: [u16; 8] = [253, 247, 0, 0, 0, 0, 0, 0];
 
 /// Numbers at and far beyond every range.
-const NUMBERS: [usize; 12] = [0, 1, 2, 3, 12, 13, 15, 16, 63, 64, usize::MAX / 2 + 1, usize::MAX];
+const NUMBERS: [usize; 12] = [0, 1, 2, 3, 14, 15, 16, 17, 63, 64, usize::MAX / 2 + 1, usize::MAX];
 
 fn hostile_shapes() -> impl Iterator<Item = Shape> {
     NUMBERS.into_iter().flat_map(|nodes| {
@@ -21,7 +21,7 @@ fn hostile_shapes() -> impl Iterator<Item = Shape> {
 
 /// The ranges of document 01.
 fn within_ranges(shape: Shape) -> bool {
-    (3..=12).contains(&shape.nodes) && (1..=shape.nodes - 2).contains(&shape.data) && (1..=15).contains(&shape.layers)
+    (3..=14).contains(&shape.nodes) && (1..=shape.nodes - 2).contains(&shape.data) && (1..=15).contains(&shape.layers)
 }
 
 #[test]
@@ -206,6 +206,10 @@ fn sizes_are_those_of_document_01() {
     let shape = Shape { layers: 1, ..shape };
     assert_eq!(shape.message_symbols(2), Err(Refusal::PartBatch));
     assert_eq!(shape.message_symbols(3), Ok(1024));
+    let largest = Shape::new(14, 12, 15).unwrap();
+    assert_eq!((largest.archive_symbols(), largest.capacity()), (Ok(3_440_640), Ok(2_949_120)));
+    let eleven = Shape::new(13, 1, 3).unwrap();
+    assert_eq!((eleven.message_symbols(11), eleven.wire_symbols(11)), (Ok(2048), Ok(270_336)));
 }
 
 #[test]
@@ -228,10 +232,14 @@ fn a_card_is_unpacked_as_it_was_packed() {
     assert_eq!(SHAPE.pack_to_vec(1, 2, &NODE_1), Ok(CARD.to_vec()));
     let header = Header { shape: SHAPE, node: 1, length: 2 };
     assert_eq!(unpack_to_vec(&CARD), Ok((header, NODE_1.to_vec())));
-    let largest = Shape::new(12, 10, 15).unwrap();
-    let symbols = vec![256; 61_440];
-    let card = largest.pack_to_vec(11, 614_400, &symbols).unwrap();
-    assert_eq!(unpack_to_vec(&card), Ok((Header { shape: largest, node: 11, length: 614_400 }, symbols)));
+    // The largest card that a reader of three groups took, and the largest of all, whose length has four.
+    for (n, room, length) in [(12, 122_887, 614_400), (14, 491_528, 2_949_120)] {
+        let largest = Shape::new(n, n - 2, 15).unwrap();
+        let symbols = vec![256; largest.node_symbols().unwrap()];
+        let card = largest.pack_to_vec(n - 1, length, &symbols).unwrap();
+        assert_eq!(card.len(), room);
+        assert_eq!(unpack_to_vec(&card), Ok((Header { shape: largest, node: n - 1, length }, symbols)));
+    }
 }
 
 #[test]
@@ -241,10 +249,10 @@ fn cut_lengthened_and_huge_cards_are_refused() {
     }
     assert_eq!(unpack_to_vec(&[&CARD[..], &[0]].concat()), Err(Refusal::Malformed));
     // Headers that announce the most symbols, or more than there can be, with none behind them.
-    assert_eq!(unpack_to_vec(&[12, 10, 15, 11, 0]), Err(Refusal::Malformed));
+    assert_eq!(unpack_to_vec(&[14, 12, 15, 13, 0]), Err(Refusal::Malformed));
     assert_eq!(unpack_to_vec(&[127, 1, 127, 0, 0]), Err(Refusal::BadShape));
-    assert_eq!(unpack_to_vec(&[255, 255, 127, 1, 1, 0, 0]), Err(Refusal::BadShape));
-    assert_eq!(unpack_to_vec(&[255, 255, 255, 127, 1, 1, 0, 0]), Err(Refusal::Malformed));
+    assert_eq!(unpack_to_vec(&[255, 255, 255, 127, 1, 1, 0, 0]), Err(Refusal::BadShape));
+    assert_eq!(unpack_to_vec(&[255, 255, 255, 255, 127, 1, 1, 0, 0]), Err(Refusal::Malformed));
     // A number in more groups than it needs is malformed, also where its value would do.
     assert_eq!(unpack_to_vec(&[131, 0, 1, 1, 1, 2, 253, 1]), Err(Refusal::Malformed));
 }

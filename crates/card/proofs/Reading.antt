@@ -13,8 +13,8 @@ use Rattle.lists.proofs.Scans.{drop-next}
 use Rattle.shape.specs.declared.Refusal.the-variants as refusal
 use Rattle.card.specs.declared.Front.the-variants as front
 use Rattle.numbers.specs.declared.Number.the-variants.{Read, Malformed}
-use Rattle.numbers.specs.Numbers.{mostGroups, Found, value, malformed, readNumber, Numbers, values, broken, andThen, thenNumbers, numberAt, readNumbers}
-use Rattle.card.specs.Cards.{headerOf, headerCount, Symbols, bad, got, symbolsNumber, symbolsRead, andSymbol, atEnd, thenSymbols, readSymbols, frontOf}
+use Rattle.numbers.specs.Numbers.{mostGroups, Found, value, malformed, readNumber, Numbers, values, broken, andThen, thenNumbers, numberAt, readNumbers, numbersBy}
+use Rattle.card.specs.Cards.{headerOf, headerCount, Symbols, bad, got, symbolsNumber, symbolsRead, andSymbol, atEnd, thenSymbols, readSymbols, symbolsBy, frontOf}
 use Rattle.numbers.proofs.Places.{number-bad, number-read, number-inside}
 
 -- ---- the header
@@ -54,7 +54,7 @@ begun bytes = record { numbers = []; whole = ahead-none (readNumbers headerCount
 
 module _ {bytes : List ℕ} {left at : ℕ} (b : Begun bytes (suc left) at) where
   pub begun-step : (v next : ℕ) → numberAt mostGroups bytes at ≡ Read v next → readNumbers (suc left) (drop at bytes) ≡ andThen v (readNumbers left (drop next bytes))
-  unfolding readNumbers thenNumbers
+  unfolding numbersBy thenNumbers
   begun-step v next e = rw (number-read mostGroups bytes at v next e)
 
   abbrev pub begun-next : {v next : ℕ} → numberAt mostGroups bytes at ≡ Read v next → Begun bytes left next
@@ -65,11 +65,11 @@ module _ {bytes : List ℕ} {left at : ℕ} (b : Begun bytes (suc left) at) wher
   }
 
   pub begun-bad : numberAt mostGroups bytes at ≡ Malformed → front.Refused refusal.Malformed ≡ frontOf (length bytes) (readNumbers headerCount bytes)
-  unfolding frontOf readNumbers thenNumbers
+  unfolding frontOf numbersBy thenNumbers
   begun-bad e = sym (ap (frontOf (length bytes)) (b .whole ∙ ap (λ f. ahead (b .numbers) (thenNumbers f (readNumbers left))) (number-bad mostGroups bytes at e) ∙ ahead-broken (b .numbers)))
 
 pub begun-end : (bytes : List ℕ) (at : ℕ) (b : Begun bytes 0 at) → front.Read (headerOf (b .numbers)) at ≡ frontOf (length bytes) (readNumbers headerCount bytes)
-unfolding frontOf readNumbers
+unfolding frontOf numbersBy
 begun-end bytes at b =
     sym (ap (frontOf (length bytes)) (b .whole ∙ ahead-values (b .numbers) (drop at bytes))
     ∙ ap (front.Read (headerOf (b .numbers))) (let e : length bytes - length (drop at bytes) ≡ at = omega (arith, length-drop at bytes, b .inside) in e))
@@ -100,7 +100,7 @@ and-good v (got xs) e = refl
 
 -- what is not turned back was read
 pub symbols-good : (modulus count : ℕ) (bytes : List ℕ) → symbolsNumber (readSymbols modulus count bytes) ≡ 0 → Good (readSymbols modulus count bytes)
-unfolding readSymbols thenSymbols
+unfolding symbolsBy thenSymbols
 symbols-good modulus zero [] e = unfold atEnd symbolsRead in refl
 symbols-good modulus zero (b ∷ bytes) e = absurd (unfold atEnd symbolsNumber in omega (arith, e))
 symbols-good modulus (suc count) bytes e = go (readNumber mostGroups bytes) e (symbols-good modulus count)
@@ -132,24 +132,24 @@ module _ (modulus : ℕ) (bytes : List ℕ) (at n i : ℕ) where
   one-more h = omega arith
 
   pub scan-bad : i < n → numberAt mostGroups bytes at ≡ Malformed → readSymbols modulus (n - i) (drop at bytes) ≡ bad 6
-  unfolding readSymbols thenSymbols
+  unfolding symbolsBy thenSymbols
   scan-bad h e = rw (one-more h, number-bad mostGroups bytes at e)
 
   pub scan-left : n ≤ i → at < length bytes → readSymbols modulus (n - i) (drop at bytes) ≡ bad 6
-  unfolding readSymbols atEnd
+  unfolding symbolsBy atEnd
   scan-left h l = rw ((let e : n - i ≡ 0 = omega arith in e), drop-next bytes at 0 l)
 
   pub scan-end : n ≤ i → length bytes ≤ at → readSymbols modulus (n - i) (drop at bytes) ≡ got []
-  unfolding readSymbols atEnd
+  unfolding symbolsBy atEnd
   scan-end h l = rw ((let e : n - i ≡ 0 = omega arith in e), drop-of-length-le bytes l)
 
   module _ (v next : ℕ) (h : i < n) (e : numberAt mostGroups bytes at ≡ Read v next) where
     pub scan-high : modulus ≤ v → readSymbols modulus (n - i) (drop at bytes) ≡ bad 5
-    unfolding readSymbols thenSymbols
+    unfolding symbolsBy thenSymbols
     scan-high l = rw (one-more h, number-read mostGroups bytes at v next e, le-ltb v modulus l)
 
     pub scan-next : v < modulus → readSymbols modulus (n - i) (drop at bytes) ≡ andSymbol v (readSymbols modulus (n - (i + 1)) (drop next bytes))
-    unfolding readSymbols thenSymbols
+    unfolding symbolsBy thenSymbols
     scan-next l = rw (one-more h, number-read mostGroups bytes at v next e, lt-ltb v modulus l)
 
     pub scan-kept : Good (readSymbols modulus (n - i) (drop at bytes))
@@ -166,5 +166,5 @@ module _ (modulus : ℕ) (bytes : List ℕ) (at n i : ℕ) where
   kept-never h e g = never (sym (scan-bad h e) ∙ g)
 
   pub kept-end : n ≤ i → symbolsRead (readSymbols modulus (n - i) (drop at bytes)) ≡ []
-  unfolding readSymbols
+  unfolding symbolsBy
   kept-end h = rw (let e : n - i ≡ 0 = omega arith in e) (end-read (drop at bytes))

@@ -1,9 +1,10 @@
 -- The round trips, about the promises of the calls: unpacking what packing wrote gives header and symbols back, packing what unpacking gave
--- writes the same bytes, and a number that is read stands in its shortest form, the only one.
+-- writes the same bytes, what a reader of fewer groups accepted is unpacked as before, and a number that is read stands in its shortest
+-- form, the only one.
 use mathlib.Core.Path.{_≡_, refl, sym, ap, _∙_}
 use mathlib.Core.Bool.{true}
 use mathlib.Core.List.{List, [], _∷_, _++_}
-use Prim.Native.Nat.{ℕ, _+_, _-_, _^_, _<_}
+use Prim.Native.Nat.{ℕ, _+_, _-_, _^_, _≤_, _<_}
 use native.Mathlib.Omega.{arith}
 use lib.ListN.{length, take, drop, length-append, take-append-drop}
 use lib.Seq.{take-at, drop-append-seam}
@@ -17,11 +18,12 @@ use Rattle.card.specs.declared.Packed.the-variants as pack
 use Rattle.card.specs.declared.Unpacked.{Unpacked}
 use Rattle.card.specs.declared.Unpacked.the-variants as unpack
 use Rattle.numbers.specs.Numbers.{mostGroups, groupValues, numeral, readNumber, placed, numberAt}
-use Rattle.card.specs.Cards.{cardBytes, cardRoom, packRefusal, card, unpacked}
+use Rattle.card.specs.Cards.{cardBytes, cardRoom, packRefusal, card, unpackedBy, unpacked}
 use Rattle.card.specs.Promises.{over, Packs, readingOf, Unpacks}
 use Rattle.numbers.proofs.Numbers.{read-numeral, number-unique, all-behind}
 use Rattle.numbers.proofs.Places.{number-read}
 use Rattle.card.proofs.Cards.{unpack-packed, pack-unpacked}
+use Rattle.card.proofs.Wider.{unpacked-wider}
 
 -- ---- numbers
 
@@ -44,6 +46,11 @@ number-back front behind v h =
 
 -- ---- cards
 
+-- an answer whose reading is a card: its header, and in the buffer its symbols
+answered : (h : Header) (buffer symbols : List ℕ) (answer : Unpacked) → readingOf answer buffer ≡ card h symbols → (answer ≡ unpack.Header h) × (buffer ≡ symbols)
+answered h buffer symbols (unpack.Header h′) q = (ap unpack.Header (let s : h′ ≡ h = cc in s), cc)
+answered h buffer symbols (unpack.Refused cause) q = absurd (let z : _≡_ {A = ℕ} 0 1 = cc in omega arith)
+
 module _ (h : Header) (symbols before after : List ℕ) where
   -- what packing wrote, where it did not turn back
   written : (answer : Packed) → Packs h symbols before after answer → packRefusal symbolValues h symbols (length before) ≡ 0
@@ -61,14 +68,10 @@ module _ (h : Header) (symbols before after : List ℕ) where
   packed-unpacks long p buffer buffer′ answer e u =
       let w = written (pack.Card long) p (sym (p .number)) in
       let same : long ≡ length (cardBytes h symbols) = cc in
-      go answer (u .returned
+      answered h buffer′ symbols answer (u .returned
       ∙ ap (unpacked symbolValues (take long after)) e
       ∙ ap (λ l. unpacked symbolValues l (size (h .shape))) (ap (λ n. take n after) same ∙ w .1)
       ∙ unpack-packed symbolValues (omega arith) h symbols (length before) (sym (p .number)))
-    where
-      go : (answer : Unpacked) → readingOf answer buffer′ ≡ card h symbols → (answer ≡ unpack.Header h) × (buffer′ ≡ symbols)
-      go (unpack.Header h′) q = (ap unpack.Header (let s : h′ ≡ h = cc in s), cc)
-      go (unpack.Refused cause) q = absurd (let z : _≡_ {A = ℕ} 0 1 = cc in omega arith)
 
 -- a card that was accepted is packed as it was
 pub unpacked-packs : (bytes buffer symbols : List ℕ) (h : Header) → all (below byteValues) bytes ≡ true → Unpacks bytes buffer symbols (unpack.Header h)
@@ -77,3 +80,10 @@ pub unpacked-packs : (bytes buffer symbols : List ℕ) (h : Header) → all (bel
 unpacked-packs bytes buffer symbols h small u before after answer e p =
     let back = pack-unpacked symbolValues bytes (length buffer) h symbols small (sym (u .returned)) in
     rw (← (back .0)) (written h symbols before after answer p (ap (packRefusal symbolValues h symbols) e ∙ back .1))
+
+-- "Cards accepted until now read as before" (document 02 §7): what a reader of fewer groups accepts, three until then, is unpacked to the
+-- same header and symbols. (The reader of until then had n at most 12 besides, and accepted some of these cards alone.)
+pub accepted-before : (groups : ℕ) → groups ≤ mostGroups → (bytes buffer : List ℕ) (h : Header) (symbols : List ℕ) → unpackedBy groups symbolValues bytes (length buffer) ≡ card h symbols
+    → (buffer′ : List ℕ) (answer : Unpacked) → Unpacks bytes buffer buffer′ answer → (answer ≡ unpack.Header h) × (buffer′ ≡ symbols)
+accepted-before groups l bytes buffer h symbols e buffer′ answer u =
+    answered h buffer′ symbols answer (u .returned ∙ unpacked-wider groups mostGroups l symbolValues bytes (length buffer) h symbols e)

@@ -17,8 +17,8 @@ use Rattle.shape.proofs.Answers.{number-positive}
 use Rattle.card.specs.declared.Header.{Header}
 use Rattle.card.specs.declared.Front.the-variants as front
 use Rattle.card.specs.declared.Unpacked.the-variants as unpack
-use Rattle.numbers.specs.Numbers.{mostGroups, Found, value, malformed, readNumber, Numbers, values, broken, andThen, thenNumbers, readNumbers}
-use Rattle.card.specs.Cards.{headerOf, headerCount, headerRefusal, Symbols, bad, got, symbolsNumber, symbolsRead, readSymbols, refused, card, judged, withHeader, unpacked, frontOf}
+use Rattle.numbers.specs.Numbers.{mostGroups, Found, value, malformed, readNumber, Numbers, values, broken, andThen, thenNumbers, readNumbers, numbersBy}
+use Rattle.card.specs.Cards.{headerOf, headerCount, headerRefusal, Symbols, bad, got, symbolsNumber, symbolsRead, readSymbols, refused, card, judged, headerBy, unpacked, unpackedBy, frontOf}
 use Rattle.card.specs.Promises.{readingNumber, readingSymbols, Unpacks}
 use Rattle.card.proofs.Judging.{header-accepted}
 use Rattle.numbers.proofs.Places.{read-behind}
@@ -38,7 +38,7 @@ by-length bytes at = go (below-or-not at (length bytes))
 
 numbers-behind : (count : ℕ) (bytes : List ℕ) (at : ℕ) (vs rest : List ℕ) → readNumbers count (drop at bytes) ≡ values vs rest
     → rest ≡ drop (length bytes - length rest) bytes
-unfolding readNumbers thenNumbers
+unfolding numbersBy thenNumbers
 numbers-behind zero bytes at vs rest e = let same : drop at bytes ≡ rest = cc in rw (← same) (by-length bytes at)
 numbers-behind (suc count) bytes at vs rest e = go (readNumber mostGroups (drop at bytes)) refl e (numbers-behind count bytes)
   where
@@ -63,10 +63,10 @@ module _ (bytes before : List ℕ) where
   refuses cause e = record { number = sym (ap readingNumber e); returned = sym e; buffer = sym (ap (readingSymbols before) e) }
 
   pub unpacks-broken : (cause : Refusal) → frontOf (length bytes) (readNumbers headerCount bytes) ≡ front.Refused cause → Unpacks bytes before before (unpack.Refused Malformed)
-  unfolding unpacked withHeader frontOf
+  unfolding unpackedBy headerBy frontOf
   unpacks-broken cause e = refuses Malformed (go (readNumbers headerCount bytes) e)
     where
-      go : (n : Numbers) → frontOf (length bytes) n ≡ front.Refused cause → withHeader symbolValues (length before) n ≡ refused 6
+      go : (n : Numbers) → frontOf (length bytes) n ≡ front.Refused cause → headerBy mostGroups symbolValues (length before) n ≡ refused 6
       go broken q = refl
       go (values xs rest) q = absurd (let z : _≡_ {A = ℕ} 0 1 = cc in omega arith)
 
@@ -75,11 +75,11 @@ module _ (bytes before : List ℕ) where
     behind-header : unpacked symbolValues bytes (length before)
         ≡ judged header (headerRefusal header (refuse (wrongLength (length before) (size (header .shape))) 4 0))
         (readSymbols symbolValues (size (header .shape)) (drop next bytes))
-    unfolding unpacked withHeader frontOf
+    unfolding unpackedBy headerBy frontOf
     behind-header = go (readNumbers headerCount bytes) refl read
       where
         go : (n : Numbers) → readNumbers headerCount bytes ≡ n → frontOf (length bytes) n ≡ front.Read header next
-            → withHeader symbolValues (length before) n
+            → headerBy mostGroups symbolValues (length before) n
             ≡ judged header (headerRefusal header (refuse (wrongLength (length before) (size (header .shape))) 4 0))
             (readSymbols symbolValues (size (header .shape)) (drop next bytes))
         go broken d q = absurd (let z : _≡_ {A = ℕ} 0 1 = cc in omega arith)

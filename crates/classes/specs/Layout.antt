@@ -5,7 +5,6 @@ use mathlib.Core.List.{List}
 use Prim.Native.Nat.{ℕ, _+_, _/_, _%_, _^_, _≤_, _<_}
 use lib.ListN.{length, getD}
 use Rattle.lists.specs.Lists.{rising}
-use Rattle.shape.specs.Shape.{mostNodes}
 use Rattle.shape.specs.Refusals.{shapeBad}
 use Rattle.classes.specs.declared.Layout.{Layout}
 use Rattle.classes.specs.Classes.{batch, top, members, messageSize}
@@ -26,9 +25,4 @@ pub record Ready (dead : List ℕ) (g : Layout) : Type 0 where
 
 -- the first elements of a table are the a of class c below 2^n, rising
 pub record Fronted (dead : List ℕ) (c n : ℕ) (out : List ℕ) : Type 0 where
-  pub each : (x : ℕ) → x < length (members dead c (2 ^ n)) → getD out x 0 ≡ getD (members dead c (2 ^ n)) x 0
-
--- the same of a table with room for any class
-pub record Listed (dead : List ℕ) (c n : ℕ) (out : List ℕ) : Type 0 where
-  pub long : length out ≡ 2 ^ mostNodes
   pub each : (x : ℕ) → x < length (members dead c (2 ^ n)) → getD out x 0 ≡ getD (members dead c (2 ^ n)) x 0

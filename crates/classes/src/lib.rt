@@ -14,11 +14,14 @@ ghost use Rattle.shape.specs.Shape.{mostNodes};
 ghost use Rattle.shape.specs.Refusals.{shapeBad};
 ghost use Rattle.classes.specs.Classes.{batch, top, node, classOf, rankClass, partner, members};
 ghost use Rattle.classes.specs.Steps.{place};
-ghost use Rattle.classes.specs.Layout.{Ready, Fronted, Listed};
+ghost use Rattle.classes.specs.Layout.{Ready, Fronted};
 ghost use Rattle.lists.specs.Lists.{member, position, rising};
 
 // The most members of a class, those of a layer.
 pub const MEMBERS: usize = 1 << MOST_NODES;
+
+// The places of a small shape's layer: a table of MEMBERS takes as long to clear as its work.
+pub const FEW: usize = 256;
 
 // What the shape and the dead nodes fix, worked out once for each call.
 pub struct Layout {
@@ -159,16 +162,6 @@ pub fn list_members(g: Layout, dead: &[usize], c: usize, out: &mut [u16])
         out[x] = a as u16;
         x += (class_of(g, dead, a) == c) as usize;
     }
-}
-
-// The a of class c, rising.
-pub fn members_of(g: Layout, dead: &[usize], c: usize) -> [u16; MEMBERS]
-    requires { ⌜ Ready (now dead) g ⌝ }
-    ensures { λ out. ⌜ Listed (now (dead .entry)) c (g .shape .n) out ⌝ }
-{
-    let mut out = [0u16; MEMBERS];
-    list_members(g, dead, c, &mut out);
-    out
 }
 
 // The rank of a dead node: its position in the list.

@@ -4,3 +4,4 @@ pub mod Numerals
 pub mod Groups
 pub mod Places
 pub mod Cut
+pub mod Wider

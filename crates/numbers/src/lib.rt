@@ -8,8 +8,8 @@ ghost use lib.Seq.{sets};
 ghost use Rattle.lists.specs.Lists.{all, below};
 ghost use Rattle.numbers.specs.Numbers.{mostGroups, groupValues, numeral, numberAt};
 
-// "Only the shortest form is read, of at most three groups."
-pub const MOST_GROUPS: usize = 3;
+// "Only the shortest form is read"; "the card's number reading accepts up to four" groups (document 02 §7).
+pub const MOST_GROUPS: usize = 4;
 
 // The values of a group of seven bits.
 const GROUP_VALUES: usize = 128;

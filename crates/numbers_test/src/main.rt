@@ -55,12 +55,18 @@ fn front(bytes: &[u8], n: usize) -> &[u8] {
     if bytes.len() < n { bytes } else { &bytes[0..n] }
 }
 
-// Numbers at each place of up to four bytes, and behind them.
+// Numbers at each place of up to five bytes, and behind them.
 fn placed(t: Tally, i: usize) -> Tally {
-    let bytes = [coded(i), coded(i / 6), coded(i / 36), coded(i / 216)];
-    let some = front(&bytes, i / 1296 % 5);
-    let at = i / 6480 % 7;
-    if at < 6 {
+    let bytes = [
+        coded(i),
+        coded(i / 6),
+        coded(i / 36),
+        coded(i / 216),
+        coded(i / 1296),
+    ];
+    let some = front(&bytes, i / 7776 % 6);
+    let at = i / 46656 % 8;
+    if at < 7 {
         read(t, some, at)
     } else {
         read(t, some, LARGEST)
@@ -100,6 +106,6 @@ fn run(name: &[u8], pairs: bool, cases: usize) {
 }
 
 fn main() {
-    run(b"placed ", false, 45360);
+    run(b"placed ", false, 373248);
     run(b"paired ", true, 65536);
 }

@@ -1,7 +1,9 @@
 // The first step of a new node, by itself: its own pairs, and its messages to the other new nodes.
+use classes::FEW;
 use classes::Layout;
+use classes::MEMBERS;
 use classes::class_size;
-use classes::members_of;
+use classes::list_members;
 use classes::rank_class;
 use rows::RUN;
 use rows::run_from;
@@ -93,27 +95,28 @@ fn first_batches(
     }
 }
 
-// The first step of rank u, from the helpers' messages.
-pub fn first_into(
+// The first step of rank u, from the helpers' messages; the members of the rank's class go to a lent table.
+fn first_with(
     g: Layout,
     dead: &[usize],
     helpers: &[usize],
     u: usize,
+    class: &mut [u16],
     messages: &[u16],
     pairs: &mut [u16],
     sums: &mut [u16],
 )
-    requires { ⌜ (Ready (now dead) g) × (Helped (g .shape) (now dead) (now helpers) u (now messages)) ⌝ }
+    requires { ⌜ (Ready (now dead) g) × (Helped (g .shape) (now dead) (now helpers) u (now messages)) × (g .places ≤ length (now class)) ⌝ }
     requires { ⌜ (length (now pairs) ≡ 2 * messageSize (g .shape) (now dead)) × (length (now sums) ≡ (length (now dead) - 1) * messageSize (g .shape) (now dead)) ⌝ }
     ensures { λ _. ⌜ FirstDone (g .shape) (now (dead .entry)) (now (helpers .entry)) u (now (messages .entry)) (now (pairs .exit)) (now (sums .exit)) ⌝ }
 {
-    let class = members_of(g, dead, rank_class(g, dead, u));
+    list_members(g, dead, rank_class(g, dead, u), class);
     let size = class_size(g, dead);
     let mut table = [0u16; TABLE];
     let mut first = 0;
     while first < size {
         let run = run_from(size, first);
-        run_table(g, dead, helpers, u, &class, first, run, &mut table);
+        run_table(g, dead, helpers, u, class, first, run, &mut table);
         first_batches(
             g,
             dead,
@@ -128,5 +131,28 @@ pub fn first_into(
             sums,
         );
         first += run;
+    }
+}
+
+// The same, with a table of its own.
+pub fn first_into(
+    g: Layout,
+    dead: &[usize],
+    helpers: &[usize],
+    u: usize,
+    messages: &[u16],
+    pairs: &mut [u16],
+    sums: &mut [u16],
+)
+    requires { ⌜ (Ready (now dead) g) × (Helped (g .shape) (now dead) (now helpers) u (now messages)) ⌝ }
+    requires { ⌜ (length (now pairs) ≡ 2 * messageSize (g .shape) (now dead)) × (length (now sums) ≡ (length (now dead) - 1) * messageSize (g .shape) (now dead)) ⌝ }
+    ensures { λ _. ⌜ FirstDone (g .shape) (now (dead .entry)) (now (helpers .entry)) u (now (messages .entry)) (now (pairs .exit)) (now (sums .exit)) ⌝ }
+{
+    if g.places <= FEW {
+        let mut few = [0u16; FEW];
+        first_with(g, dead, helpers, u, &mut few, messages, pairs, sums);
+    } else {
+        let mut table = [0u16; MEMBERS];
+        first_with(g, dead, helpers, u, &mut table, messages, pairs, sums);
     }
 }

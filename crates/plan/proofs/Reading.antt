@@ -8,7 +8,7 @@ use native.Mathlib.Omega.{arith}
 use lib.ListN.{length, set, take, drop, length-set}
 use lib.Seq.{take-suc-set, take-all}
 use Rattle.numbers.specs.declared.Number.the-variants.{Read, Malformed}
-use Rattle.numbers.specs.Numbers.{mostGroups, thenNumbers, numberAt, readNumbers}
+use Rattle.numbers.specs.Numbers.{mostGroups, thenNumbers, numberAt, readNumbers, numbersBy}
 use Rattle.numbers.proofs.Places.{number-bad, number-read}
 use Rattle.card.proofs.Reading.{ahead, ahead-none, ahead-one, ahead-broken, ahead-values}
 use Rattle.plan.specs.declared.Behind.the-variants as behind
@@ -27,11 +27,11 @@ module _ {bytes : List ℕ} {start : ℕ} {old now : List ℕ} {i at : ℕ} (w :
   one-more h = omega (arith, w .long)
 
   pub reading-bad : i < length now → numberAt mostGroups bytes at ≡ Malformed → readNumbers (length old) (drop start bytes) ≡ numbersOf bytes now behind.Malformed
-  unfolding readNumbers thenNumbers numbersOf
+  unfolding numbersBy thenNumbers numbersOf
   reading-bad h e = w .whole ∙ rw (one-more h, number-bad mostGroups bytes at e) (ahead-broken (take i now))
 
   pub reading-next : {v next : ℕ} → i < length now → numberAt mostGroups bytes at ≡ Read v next → Reading bytes start old (set now i v) (i + 1) next
-  unfolding readNumbers thenNumbers
+  unfolding numbersBy thenNumbers
   reading-next {v} {next} h e = record {
     long = length-set now i v ∙ w .long;
     whole =
@@ -41,5 +41,5 @@ module _ {bytes : List ℕ} {start : ℕ} {old now : List ℕ} {i at : ℕ} (w :
   }
 
   pub reading-end : length now ≤ i → readNumbers (length old) (drop start bytes) ≡ numbersOf bytes now (behind.At at)
-  unfolding readNumbers numbersOf
+  unfolding numbersBy numbersOf
   reading-end h = w .whole ∙ rw ((let e : length old - i ≡ 0 = omega (arith, w .long) in e), take-all i now h) (ahead-values now (drop at bytes))

@@ -20,8 +20,8 @@ use Rattle.card.specs.declared.Packed.{Packed}
 use Rattle.card.specs.declared.Packed.the-variants as pack
 use Rattle.card.specs.declared.Unpacked.{Unpacked}
 use Rattle.card.specs.declared.Unpacked.the-variants as unpack
-use Rattle.numbers.specs.Numbers.{Numbers, values, broken, readNumbers}
-use Rattle.card.specs.Cards.{headerNumbers, headerOf, headerCount, headerRefusal, cardBytes, cardRoom, packRefusal, Symbols, readSymbols, refused, card, judged, withHeader, unpacked}
+use Rattle.numbers.specs.Numbers.{mostGroups, Numbers, values, broken, readNumbers}
+use Rattle.card.specs.Cards.{headerNumbers, headerOf, headerCount, headerRefusal, cardBytes, cardRoom, packRefusal, Symbols, readSymbols, refused, card, judged, headerBy, unpacked, unpackedBy}
 use Rattle.card.specs.Promises.{packedNumber, packedValues, readingOf, readingNumber, readingSymbols, Packs, Unpacks}
 use Rattle.card.proofs.Judging.{header-accepted, pack-accepted}
 use Rattle.card.proofs.Cards.{card-fits}
@@ -64,10 +64,10 @@ module _ (header symbols : ℕ) where
 
 -- a card has symbols: no card is read into a buffer that has room for none
 no-room : (bytes : List ℕ) (h : Header) (xs : List ℕ) → unpacked symbolValues bytes 0 ≡ card h xs → ⊥
-unfolding unpacked withHeader wrongLength
+unfolding unpackedBy headerBy wrongLength
 no-room bytes h xs e = go (readNumbers headerCount bytes) e
   where
-    go : (n : Numbers) → withHeader symbolValues 0 n ≡ card h xs → ⊥
+    go : (n : Numbers) → headerBy mostGroups symbolValues 0 n ≡ card h xs → ⊥
     go broken q = let z : _≡_ {A = ℕ} 0 1 = cc in omega arith
     go (values ys rest) q = next (headerRefusal (headerOf ys) tail) refl (readSymbols symbolValues (size (headerOf ys .shape)) rest) q
       where

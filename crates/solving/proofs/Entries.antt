@@ -29,7 +29,7 @@ use Rattle.filling.proofs.Filling.{apart}
 use Rattle.classes.specs.declared.Layout.{Layout}
 use Rattle.classes.specs.Classes.{batch, top, node, rankClass, spot, members, spotAt, messageSize}
 use Rattle.classes.specs.Steps.{solved, exchangeAt}
-use Rattle.classes.specs.Layout.{Ready, Listed}
+use Rattle.classes.specs.Layout.{Ready, Fronted}
 use Rattle.classes.proofs.Ranks.{rankClass-le}
 use Rattle.classes.proofs.Counts.{message-is}
 use Rattle.classes.proofs.Layouts.{bounded, ready-dead, node-high}
@@ -122,7 +122,7 @@ module _ {dead : List ℕ} {g : Layout} (R : Ready dead g) (skipped : List Bool)
       I .each i (omega (arith, rising-below (g .shape .n) dead (R .rises) (position i dead) (p .0), p .1)) ∙ ap not d
 
   -- the multipliers at a run of the members of a rank's class serve its sums in every batch
-  pub class-multiplied : (helpers : List ℕ) (u first run : ℕ) (class each table : List ℕ) → Listed dead (rankClass dead u) (g .shape .n) class
+  pub class-multiplied : (helpers : List ℕ) (u first run : ℕ) (class each table : List ℕ) → Fronted dead (rankClass dead u) (g .shape .n) class
       → first + run ≤ length (members dead (rankClass dead u) (2 ^ g .shape .n)) → ((t : ℕ) → t < run → element each t ≡ getD class (first + t) 0)
       → TableOver (entryPoints (g .shape .n) (node dead u) (element each)) run helpers (λ e. getD skipped e false) (g .shape .n + 1) table
       → (b : ℕ) → b < g .batches → Multiplied (g .shape) dead helpers u (b * length (members dead (rankClass dead u) (2 ^ g .shape .n)) + first) run table

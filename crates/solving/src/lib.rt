@@ -22,7 +22,7 @@ ghost use Rattle.rows.specs.Rows.{mostPlaces, Low, remainder};
 ghost use Rattle.tables.specs.Tables.{tableSize};
 ghost use Rattle.filling.specs.Filling.{Summable, InRun};
 ghost use Rattle.classes.specs.Classes.{node, rankClass, members, messageSize};
-ghost use Rattle.classes.specs.Layout.{Ready, Listed};
+ghost use Rattle.classes.specs.Layout.{Ready, Fronted};
 ghost use Rattle.solving.specs.Solving.{slotOf, slots, Gathered, rowSum, Multiplied, Spread, Places, Put, Other, slotPlace, handedSum};
 
 // A row of symbols for each node.
@@ -134,7 +134,7 @@ pub fn run_table(
     table: &mut [u16],
 )
     requires { ⌜ (Ready (now dead) g) × (u < length (now dead)) × (rising 0 (g .shape .n) (now helpers) ≡ true) × (length (now helpers) ≡ g .shape .k + 1) × ((v j : ℕ) → v < length (now dead) → j < length (now helpers) → getD (now dead) v 0 ≡ getD (now helpers) j 0 → ⊥) ⌝ }
-    requires { ⌜ Listed (now dead) (rankClass (now dead) u) (g .shape .n) (now class) × (run ≤ mostPlaces) × (first + run ≤ length (members (now dead) (rankClass (now dead) u) (2 ^ g .shape .n))) × (length (now table) ≡ tableSize) × Low (narrow .modulus) (now table) ⌝ }
+    requires { ⌜ (Fronted (now dead) (rankClass (now dead) u) (g .shape .n) (now class) × (g .places ≤ length (now class))) × (run ≤ mostPlaces) × (first + run ≤ length (members (now dead) (rankClass (now dead) u) (2 ^ g .shape .n))) × (length (now table) ≡ tableSize) × Low (narrow .modulus) (now table) ⌝ }
     ensures { λ _. ⌜ (length (now (table .exit)) ≡ tableSize) × Low (narrow .modulus) (now (table .exit)) × ((b : ℕ) → b < g .batches → Multiplied (g .shape) (now (dead .entry)) (now (helpers .entry)) u (b * length (members (now (dead .entry)) (rankClass (now (dead .entry)) u) (2 ^ g .shape .n)) + first) run (now (table .exit))) ⌝ }
 {
     let s = g.shape;

@@ -2,6 +2,7 @@
 use batches::add_batch;
 use batches::cross_batch;
 use batches::pair_batch;
+use classes::FEW;
 use classes::Layout;
 use classes::MEMBERS;
 use classes::among;
@@ -21,22 +22,18 @@ ghost use Rattle.steps.specs.Storing.{Paired, OwnLow, LowAt, sentBy, Cro
 ghost use Rattle.rows.specs.Rows.{Low};
 ghost use Rattle.code.specs.Code.{narrow};
 
-// The places of a small shape's layer.
-const FEW: usize = 64;
-
-// The message to rank u of a helper with these N symbols, batch by batch; the members of the rank's class go to a lent table.
-fn message_with(
+// The message to rank u of a helper with these N symbols, batch by batch; the table has the members of the rank's class.
+pub fn message_by(
     g: Layout,
     dead: &[usize],
     u: usize,
-    table: &mut [u16],
+    table: &[u16],
     symbols: &[u16],
     message: &mut [u16],
 )
-    requires { ⌜ (Ready (now dead) g) × (u < length (now dead)) × (g .places ≤ length (now table)) × (length (now symbols) ≡ size (g .shape)) × (length (now message) ≡ messageSize (g .shape) (now dead)) ⌝ }
+    requires { ⌜ (Ready (now dead) g) × (u < length (now dead)) × (g .places ≤ length (now table)) × (Fronted (now dead) (rankClass (now dead) u) (g .shape .n) (now table)) × (length (now symbols) ≡ size (g .shape)) × (length (now message) ≡ messageSize (g .shape) (now dead)) ⌝ }
     ensures { λ _. ⌜ now (message .exit) ≡ helperMessage narrow (g .shape) (now (dead .entry)) u (now (symbols .entry)) ⌝ }
 {
-    list_members(g, dead, rank_class(g, dead, u), table);
     let count = class_size(g, dead);
     let turn = turn_of(g, dead, u);
     let block = g.batch * g.places;
@@ -56,7 +53,23 @@ fn message_with(
     }
 }
 
-// The message to rank u of a helper with these N symbols. Small shapes have a small table: a large one takes as long to clear as their work.
+// The same, with a lent table for the members.
+fn message_with(
+    g: Layout,
+    dead: &[usize],
+    u: usize,
+    table: &mut [u16],
+    symbols: &[u16],
+    message: &mut [u16],
+)
+    requires { ⌜ (Ready (now dead) g) × (u < length (now dead)) × (g .places ≤ length (now table)) × (length (now symbols) ≡ size (g .shape)) × (length (now message) ≡ messageSize (g .shape) (now dead)) ⌝ }
+    ensures { λ _. ⌜ now (message .exit) ≡ helperMessage narrow (g .shape) (now (dead .entry)) u (now (symbols .entry)) ⌝ }
+{
+    list_members(g, dead, rank_class(g, dead, u), table);
+    message_by(g, dead, u, table, symbols, message);
+}
+
+// The same, with a table of its own.
 pub fn message_to(g: Layout, dead: &[usize], u: usize, symbols: &[u16], message: &mut [u16])
     requires { ⌜ (Ready (now dead) g) × (u < length (now dead)) × (length (now symbols) ≡ size (g .shape)) × (length (now message) ≡ messageSize (g .shape) (now dead)) ⌝ }
     ensures { λ _. ⌜ now (message .exit) ≡ helperMessage narrow (g .shape) (now (dead .entry)) u (now (symbols .entry)) ⌝ }
@@ -226,22 +239,22 @@ fn recover_with(
     }
 }
 
-// The second step of rank v in place, where its own pairs stand already.
-pub fn recover(g: Layout, dead: &[usize], v: usize, received: &[u16], symbols: &mut [u16])
-    requires { ⌜ (Ready (now dead) g) × (v < length (now dead)) ⌝ }
+// The second step of rank v in place, where its own pairs stand already, with a lent table for members.
+pub fn recover(
+    g: Layout,
+    dead: &[usize],
+    v: usize,
+    table: &mut [u16],
+    received: &[u16],
+    symbols: &mut [u16],
+)
+    requires { ⌜ (Ready (now dead) g) × (v < length (now dead)) × (g .places ≤ length (now table)) ⌝ }
     requires { ⌜ (length (now received) ≡ (length (now dead) - 1) * messageSize (g .shape) (now dead)) × (length (now symbols) ≡ size (g .shape)) ⌝ }
     requires { ⌜ (Low (narrow .modulus) (now received)) × (OwnLow (narrow .modulus) (g .shape) (now dead) v (now symbols)) ⌝ }
     ensures { λ _. ⌜ Recovers narrow (g .shape) (now (dead .entry)) v (now (received .entry)) (now (symbols .entry)) (now (symbols .exit)) ⌝ }
 {
-    if g.places <= FEW {
-        let mut few = [0u16; FEW];
-        list_members(g, dead, 0, &mut few);
-        recover_with(g, dead, v, 0, &mut few, received, symbols);
-    } else {
-        let mut table = [0u16; MEMBERS];
-        list_members(g, dead, 0, &mut table);
-        recover_with(g, dead, v, 0, &mut table, received, symbols);
-    }
+    list_members(g, dead, 0, table);
+    recover_with(g, dead, v, 0, table, received, symbols);
 }
 
 // The second step of rank v in place, with a table of the members of its own class. One new node alone has all its symbols from its own pairs.

@@ -19,7 +19,7 @@ use Rattle.shape.specs.Refusals.{numberOf, refuse, shapeBad, repairBad, layersB
 use Rattle.shape.proofs.Accepted.{passed, Shaped, shape-accepted, Repairable, repair-accepted, mostSize}
 use Rattle.classes.specs.Classes.{batch, node, messageSize}
 use Rattle.numbers.specs.Numbers.{Numbers, values, broken, readNumbers}
-use Rattle.transfers.specs.Plan.{helperTransfer, deadTransfer, transfers, noTransfer, line, transferLine, total, planText, textOr, listsNumber, withNodes, withLists, shapeNumber, withShape, withFront, leftOver, frontCount, printed, mostTransfers, lineRoom, totalRoom, planRoom}
+use Rattle.transfers.specs.Plan.{helperTransfer, deadTransfer, transfers, noTransfer, line, transferLine, total, planText, textOr, listsNumber, withNodes, withLists, shapeNumber, withShape, withFront, leftOver, frontCount, printed, mostTransfers, messageDigits, totalDigits, lineRoom, totalRoom, planRoom}
 use Rattle.transfers.specs.Promises.{Few, Plannable, Puts}
 use Rattle.transfers.proofs.Puts.{puts-next, puts-last, puts-room}
 use Rattle.transfers.proofs.Transfers.{transfers-length, transfers-count, transfer-first, transfer-second}
@@ -58,7 +58,7 @@ module _ (s : Shape) (dead helpers : List ℕ) (p : Plannable s dead helpers) wh
   unfolding messageSize
   all-messages = mul-div-le (size s) (length dead + 1)
 
-  message-high : messageSize s dead < 10 ^ 5
+  message-high : messageSize s dead < 10 ^ messageDigits
   message-high = omega (arith, all-messages, S .size-high, mul-le-mul-right (messageSize s dead) (let l : 2 ≤ length dead + 1 = omega (arith, R .some-dead) in l))
 
   pub senders-high : s .k + length dead ≤ mostNodes - 1
@@ -68,7 +68,7 @@ module _ (s : Shape) (dead helpers : List ℕ) (p : Plannable s dead helpers) wh
   count-high = mul-le-mul {n₂ = mostNodes - 2} (omega (arith, R .few-dead, S .n-high, S .k-low)) senders-high
 
   -- h messages of the h + 1 have no more symbols than a node, and there are k + h senders to each dead node
-  pub total-high : length dead * (s .k + length dead) * messageSize s dead < 10 ^ 6
+  pub total-high : length dead * (s .k + length dead) * messageSize s dead < 10 ^ totalDigits
   total-high =
       omega (arith, mul-le-mul senders-high (let l : length dead * messageSize s dead ≤ mostSize = omega (arith, all-messages, S .size-high) in l))
 
@@ -94,17 +94,18 @@ module _ (s : Shape) (dead helpers : List ℕ) (p : Plannable s dead helpers) wh
   unfolding transferLine
   transfer-fits e l =
       let t = transfer-small e l in
-      line-more 1 _ _ 9 (omega (arith, t .0, S .n-high))
-      (line-more 1 _ _ 6 (omega (arith, t .1, S .n-high)) (line-more 4 _ _ 0 message-high line-none))
+      line-more 1 _ _ (lineRoom - 3) (omega (arith, t .0, S .n-high))
+      (line-more 1 _ _ (messageDigits + 1) (omega (arith, t .1, S .n-high)) (line-more (messageDigits - 1) _ _ 0 message-high line-none))
 
   few : length (transfers dead helpers) ≤ mostTransfers
   few = omega (arith, transfers-count s dead helpers R, count-high)
 
   first-fits : length (line (s .n ∷ s .k ∷ s .layers ∷ length dead ∷ [])) ≤ lineRoom
   first-fits =
-      line-more 1 _ _ 9 (omega (arith, S .n-high))
-      (line-more 1 _ _ 6 (omega (arith, S .n-high, S .k-high))
-      (line-more 1 _ _ 3 (omega (arith, S .layers-high)) (line-more 1 _ _ 0 (omega (arith, S .n-high, R .few-dead)) line-none)))
+      let four = line-more 1 (s .n) _ 9 (omega (arith, S .n-high))
+      (line-more 1 (s .k) _ 6 (omega (arith, S .n-high, S .k-high))
+      (line-more 1 (s .layers) _ 3 (omega (arith, S .layers-high)) (line-more 1 (length dead) _ 0 (omega (arith, S .n-high, R .few-dead)) line-none))) in
+      omega (arith, four)
 
   abbrev first : List ℕ
   first = line (s .n ∷ s .k ∷ s .layers ∷ length dead ∷ [])
@@ -117,7 +118,7 @@ module _ (s : Shape) (dead helpers : List ℕ) (p : Plannable s dead helpers) wh
 
   last-fits : length last ≤ totalRoom
   unfolding total
-  last-fits = line-more 5 (total s dead) [] 0 total-high line-none
+  last-fits = line-more (totalDigits - 1) (total s dead) [] 0 total-high line-none
 
   plan-is : planText s dead helpers ≡ first ++ (lines ++ last)
   unfolding planText

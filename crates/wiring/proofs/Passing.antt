@@ -18,14 +18,14 @@ use Rattle.filling.specs.Filling.{InRun, InLayers, Below}
 use Rattle.classes.specs.declared.Layout.{Layout}
 use Rattle.classes.specs.Classes.{batch, node, rankClass, partner, members, placeOf, Sum, spot, sumAt, sumPlace, messageSize}
 use Rattle.classes.specs.Steps.{ownPairs, exchangeAt}
-use Rattle.classes.specs.Layout.{Ready, Listed}
+use Rattle.classes.specs.Layout.{Ready, Fronted}
 use Rattle.classes.proofs.Dead.{Dead}
 use Rattle.classes.proofs.Adding.{joined}
 use Rattle.classes.proofs.FirstStep.{pairs-at}
 use Rattle.classes.proofs.Layouts.{bounded, ready-dead}
 use Rattle.classes.proofs.Sums.{At, sumAt-all, sumAt-lt}
 use Rattle.classes.proofs.Messages.{spot-number}
-use Rattle.classes.proofs.Members.{member-is, member-sum, member-number}
+use Rattle.classes.proofs.Members.{member-sum, member-number}
 use Rattle.batches.proofs.Batches.{turned-is}
 use Rattle.steps.specs.Storing.{sumSymbol, Paired}
 use Rattle.steps.proofs.Storing.{firsts-own, others-own, first-other}
@@ -111,7 +111,7 @@ batch-places {dead} {g} R u e b a =
     go true = batch-place (g .shape) dead 0 b a
     go false = batch-place (g .shape) dead (partner dead u) b (flip (node dead u) a)
 
-module _ {dead : List ℕ} {g : Layout} (R : Ready dead g) (u first run : ℕ) (class : List ℕ) (L : Listed dead (rankClass dead u) (g .shape .n) class)
+module _ {dead : List ℕ} {g : Layout} (R : Ready dead g) (u first run : ℕ) (class : List ℕ) (L : Fronted dead (rankClass dead u) (g .shape .n) class)
     (room : first + run ≤ length (members dead (rankClass dead u) (2 ^ g .shape .n))) where
   offset-is : (e b : ℕ) (at : List ℕ) → b < g .batches → ((t : ℕ) → t < run → element at t ≡ sumPlace (g .shape) dead u e 0 (getD class (first + t) 0))
       → (t : ℕ) → t < run → b * g .batch * g .places + element at t ≡ ownPlace (g .shape) dead u e (b * length (members dead (rankClass dead u) (2 ^ g .shape .n)) + first + t)

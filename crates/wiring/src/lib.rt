@@ -1,7 +1,7 @@
 // The work of a whole repair: the helpers' messages on the wire, then each new node's first step, then each second step.
 use classes::Layout;
 use classes::class_size;
-use classes::members_of;
+use classes::list_members;
 use classes::rank_class;
 use classes::turn_of;
 use rows::RUN;
@@ -11,7 +11,7 @@ use solving::gather;
 use solving::hand_out;
 use solving::put_entry;
 use solving::run_table;
-use steps::message_to;
+use steps::message_by;
 use steps::recover;
 use tables::TABLE;
 ghost use mathlib.Core.Path.{_≡_};
@@ -24,7 +24,7 @@ ghost use Rattle.code.specs.Code.{narrow};
 ghost use Rattle.rows.specs.Rows.{mostPlaces};
 ghost use Rattle.filling.specs.Filling.{InRun, InLayers};
 ghost use Rattle.classes.specs.Classes.{rankClass, members, sumPlace, messageSize};
-ghost use Rattle.classes.specs.Layout.{Ready, Listed};
+ghost use Rattle.classes.specs.Layout.{Ready, Fronted};
 ghost use Rattle.classes.specs.Whole.{fromHelpers};
 ghost use Rattle.solving.specs.Solving.{Multiplied};
 ghost use Rattle.wiring.specs.Wires.{inward, inwards, Messaged, Wired, Offsets, OnWire, FirstOnWire, Exchanged, Renewable, Renewed};
@@ -37,19 +37,21 @@ pub fn told_by(g: Layout, dead: &[usize], helpers: &[usize]) -> usize
     helpers.len() * g.share
 }
 
-// The messages of the helpers to rank u, one behind the other.
+// The messages of the helpers to rank u, one behind the other; the members of the rank's class go to a lent table.
 fn messages_to(
     g: Layout,
     dead: &[usize],
     helpers: &[usize],
     u: usize,
+    class: &mut [u16],
     nodes: &[u16],
     out: &mut [u16],
 )
-    requires { ⌜ (Ready (now dead) g) × (u < length (now dead)) × (rising 0 (g .shape .n) (now helpers) ≡ true) ⌝ }
+    requires { ⌜ (Ready (now dead) g) × (u < length (now dead)) × (rising 0 (g .shape .n) (now helpers) ≡ true) × (g .places ≤ length (now class)) ⌝ }
     requires { ⌜ (length (now nodes) ≡ g .shape .n * size (g .shape)) × (length (now out) ≡ length (now helpers) * messageSize (g .shape) (now dead)) ⌝ }
     ensures { λ _. ⌜ now (out .exit) ≡ fromHelpers narrow (g .shape) (now (dead .entry)) (now (helpers .entry)) (now (nodes .entry)) u ⌝ }
 {
+    list_members(g, dead, rank_class(g, dead, u), class);
     let share = g.share;
     let full = size(g.shape);
     for j in 0..helpers.len() {
@@ -57,7 +59,7 @@ fn messages_to(
         let to = from + full;
         let at = j * share;
         let end = at + share;
-        message_to(g, dead, u, &nodes[from..to], &mut out[at..end]);
+        message_by(g, dead, u, class, &nodes[from..to], &mut out[at..end]);
     }
 }
 
@@ -67,17 +69,18 @@ pub fn send(
     dead: &[usize],
     helpers: &[usize],
     told: usize,
+    class: &mut [u16],
     nodes: &[u16],
     wire: &mut [u16],
 )
-    requires { ⌜ (Ready (now dead) g) × (told ≡ inward (g .shape) (now dead)) × (rising 0 (g .shape .n) (now helpers) ≡ true) × (length (now helpers) ≡ g .shape .k + 1) ⌝ }
+    requires { ⌜ (Ready (now dead) g) × (told ≡ inward (g .shape) (now dead)) × (rising 0 (g .shape .n) (now helpers) ≡ true) × (length (now helpers) ≡ g .shape .k + 1) × (g .places ≤ length (now class)) ⌝ }
     requires { ⌜ (length (now nodes) ≡ g .shape .n * size (g .shape)) × (inwards (g .shape) (now dead) ≤ length (now wire)) ⌝ }
     ensures { λ _. ⌜ Messaged (g .shape) (now (dead .entry)) (now (helpers .entry)) (now (nodes .entry)) (now (wire .entry)) (now (wire .exit)) ⌝ }
 {
     for u in 0..dead.len() {
         let at = u * told;
         let end = at + told;
-        messages_to(g, dead, helpers, u, nodes, &mut wire[at..end]);
+        messages_to(g, dead, helpers, u, class, nodes, &mut wire[at..end]);
     }
 }
 
@@ -91,7 +94,7 @@ fn offsets(
     first: usize,
     run: usize,
 ) -> [usize; RUN]
-    requires { ⌜ (Ready (now dead) g) × (u < length (now dead)) × (Listed (now dead) (rankClass (now dead) u) (g .shape .n) (now class)) × (run ≤ mostPlaces) × (first + run ≤ length (members (now dead) (rankClass (now dead) u) (2 ^ g .shape .n))) × (which < 2) ⌝ }
+    requires { ⌜ (Ready (now dead) g) × (u < length (now dead)) × ((Fronted (now dead) (rankClass (now dead) u) (g .shape .n) (now class)) × (g .places ≤ length (now class))) × (run ≤ mostPlaces) × (first + run ≤ length (members (now dead) (rankClass (now dead) u) (2 ^ g .shape .n))) × (which < 2) ⌝ }
     ensures { λ out. ⌜ (length out ≡ mostPlaces) × ((t : ℕ) → t < run → element out t ≡ sumPlace (g .shape) (now (dead .entry)) u which 0 (getD (now (class .entry)) (first + t) 0)) ⌝ }
 {
     let turn = turn_of(g, dead, u) * which;
@@ -187,28 +190,29 @@ fn batches_on_wire(
     }
 }
 
-// The first step of rank u from the messages on the wire.
+// The first step of rank u from the messages on the wire; the members of the rank's class go to a lent table.
 fn first_on_wire(
     g: Layout,
     dead: &[usize],
     helpers: &[usize],
     told: usize,
     u: usize,
+    class: &mut [u16],
     part: &mut [u16],
     wire: &mut [u16],
 )
-    requires { ⌜ (Ready (now dead) g) × (u < length (now dead)) × (told ≡ inward (g .shape) (now dead)) × (length (now part) ≡ size (g .shape)) × (Wired (g .shape) (now dead) (now helpers) (now wire)) ⌝ }
+    requires { ⌜ (Ready (now dead) g) × (u < length (now dead)) × (told ≡ inward (g .shape) (now dead)) × (length (now part) ≡ size (g .shape)) × (Wired (g .shape) (now dead) (now helpers) (now wire)) × (g .places ≤ length (now class)) ⌝ }
     ensures { λ _. ⌜ FirstOnWire (g .shape) (now (dead .entry)) (now (helpers .entry)) u (now (part .exit)) (now (wire .entry)) (now (wire .exit)) ⌝ }
 {
-    let class = members_of(g, dead, rank_class(g, dead, u));
+    list_members(g, dead, rank_class(g, dead, u), class);
     let count = class_size(g, dead);
     let mut table = [0u16; TABLE];
     let mut first = 0;
     while first < count {
         let run = run_from(count, first);
-        run_table(g, dead, helpers, u, &class, first, run, &mut table);
-        let ones = offsets(g, dead, u, 0, &class, first, run);
-        let others = offsets(g, dead, u, 1, &class, first, run);
+        run_table(g, dead, helpers, u, class, first, run, &mut table);
+        let ones = offsets(g, dead, u, 0, class, first, run);
+        let others = offsets(g, dead, u, 1, class, first, run);
         batches_on_wire(
             g,
             dead,
@@ -234,10 +238,11 @@ pub fn exchange(
     dead: &[usize],
     helpers: &[usize],
     told: usize,
+    class: &mut [u16],
     nodes: &mut [u16],
     wire: &mut [u16],
 )
-    requires { ⌜ (Ready (now dead) g) × (told ≡ inward (g .shape) (now dead)) × (length (now nodes) ≡ g .shape .n * size (g .shape)) × (Wired (g .shape) (now dead) (now helpers) (now wire)) ⌝ }
+    requires { ⌜ (Ready (now dead) g) × (told ≡ inward (g .shape) (now dead)) × (length (now nodes) ≡ g .shape .n * size (g .shape)) × (Wired (g .shape) (now dead) (now helpers) (now wire)) × (g .places ≤ length (now class)) ⌝ }
     ensures { λ _. ⌜ Exchanged (g .shape) (now (dead .entry)) (now (helpers .entry)) (now (nodes .entry)) (now (nodes .exit)) (now (wire .entry)) (now (wire .exit)) ⌝ }
 {
     let full = size(g.shape);
@@ -245,13 +250,20 @@ pub fn exchange(
     for u in 0..ranks {
         let at = dead[u] * full;
         let end = at + full;
-        first_on_wire(g, dead, helpers, told, u, &mut nodes[at..end], wire);
+        first_on_wire(g, dead, helpers, told, u, class, &mut nodes[at..end], wire);
     }
 }
 
 // Every rank's second step, from its own pairs at their places and its messages on the wire.
-pub fn renew(g: Layout, dead: &[usize], told: usize, nodes: &mut [u16], wire: &[u16])
-    requires { ⌜ (Ready (now dead) g) × (told ≡ inward (g .shape) (now dead)) × (length (now nodes) ≡ g .shape .n * size (g .shape)) × (length (now wire) ≡ inwards (g .shape) (now dead) + length (now dead) * (length (now dead) - 1) * messageSize (g .shape) (now dead)) × (Renewable (g .shape) (now dead) (now nodes) (now wire)) ⌝ }
+pub fn renew(
+    g: Layout,
+    dead: &[usize],
+    told: usize,
+    class: &mut [u16],
+    nodes: &mut [u16],
+    wire: &[u16],
+)
+    requires { ⌜ (Ready (now dead) g) × (told ≡ inward (g .shape) (now dead)) × (length (now nodes) ≡ g .shape .n * size (g .shape)) × (length (now wire) ≡ inwards (g .shape) (now dead) + length (now dead) * (length (now dead) - 1) * messageSize (g .shape) (now dead)) × (Renewable (g .shape) (now dead) (now nodes) (now wire)) × (g .places ≤ length (now class)) ⌝ }
     ensures { λ _. ⌜ Renewed (g .shape) (now (dead .entry)) (now (nodes .entry)) (now (nodes .exit)) (now (wire .entry)) ⌝ }
 {
     let full = size(g.shape);
@@ -263,6 +275,6 @@ pub fn renew(g: Layout, dead: &[usize], told: usize, nodes: &mut [u16], wire: &[
         let end = at + full;
         let from = base + u * part;
         let to = from + part;
-        recover(g, dead, u, &wire[from..to], &mut nodes[at..end]);
+        recover(g, dead, u, class, &wire[from..to], &mut nodes[at..end]);
     }
 }

@@ -6,10 +6,14 @@ use std::path::{Path, PathBuf};
 
 use hmsr::{unpack_to_vec, Header, Refusal};
 
+use super::layers::MOST_LAYERS;
 use super::{files, Failure};
 
-/// The bytes of the longest card: five numbers of three bytes at most, and 15 × 2^12 symbols of two.
-const MOST_CARD: usize = 15 + 2 * (15 << 12);
+/// "n may be 3 to 14".
+const MOST_NODES: usize = 14;
+
+/// The bytes of the largest buffer that a card is packed into: no card is longer.
+const MOST_CARD: usize = 15 + 2 * (MOST_LAYERS << MOST_NODES);
 
 /// Names have two digits.
 pub const MOST_NAMES: usize = 100;

@@ -73,6 +73,6 @@ fn advice(refusal: Refusal) -> &'static str {
         Refusal::BadShape => "choose --nodes, --data and --layers within these ranges",
         Refusal::BadNodes => "name 1 to nodes - data - 1 dead nodes and exactly data + 1 other nodes as helpers",
         Refusal::PartBatch => "repair fewer nodes at a time",
-        _ => "name exactly data + 1 helpers, and no number above 2097151",
+        _ => "name exactly data + 1 helpers, and no number above 268435455",
     }
 }

@@ -6,7 +6,7 @@ const USAGES: [(&str, &str); 7] = [
         "write",
         "\
 hmsr write FILE DIR --nodes N --data K [--layers L] [--quiet]
-        write FILE into N cards, DIR/node-00.card and so on, any K of which give it back (N is 3 to 12, K is 1 to
+        write FILE into N cards, DIR/node-00.card and so on, any K of which give it back (N is 3 to 14, K is 1 to
         N - 2; without --layers the best number from 1 to 15 is chosen); FILE - is standard input; a write that was
         killed is finished by the same write again
 ",

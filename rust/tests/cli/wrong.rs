@@ -99,11 +99,11 @@ fn every_pair_of_wrong_cards_is_named() {
 #[test]
 fn the_largest_shape_is_decided_in_bounded_time() {
     let place = Place::new("wrong_large");
-    fs::write(place.path("transcript"), bytes(300_000, 5)).unwrap();
-    place.does("write transcript drives --nodes 12 --data 6 --layers 15");
-    // The last three that are looked for.
-    for node in [3, 4, 5] {
+    fs::write(place.path("transcript"), bytes(1_200_000, 5)).unwrap();
+    place.does("write transcript drives --nodes 14 --data 6 --layers 15");
+    // The last four that are looked for: 210 sets of six nodes are tried.
+    for node in [2, 3, 4, 5] {
         place.damage("drives", node);
     }
-    assert!(place.opens("drives", &bytes(300_000, 5)).contains("from nodes 0, 1, 2, 6, 7, 8\n"));
+    assert!(place.opens("drives", &bytes(1_200_000, 5)).contains("from nodes 0, 1, 6, 7, 8, 9\n"));
 }

@@ -10,8 +10,8 @@ static const size_t nodes[] = {0,  1,  2,  3,  4,  5,  6,  7,  8,  9,  10, 11, 1
                                16, 17, 18, 19, 20, 21, 22, 23, 24, 25, 26, 27, 28, 29, 30, 31};
 
 /* Filled with symbols above 256, so that a call turns back with 5 where it has found every length exact. */
-static uint16_t symbols[12 * 61440], wire[1 << 20];
-static uint8_t card[1 << 17];
+static uint16_t symbols[14 * 245760], wire[1 << 22];
+static uint8_t card[1 << 19];
 
 static void print_constants(void) {
     printf("%s %d.%d.%d\n", HMSR_VERSION, HMSR_VERSION_MAJOR, HMSR_VERSION_MINOR, HMSR_VERSION_PATCH);

@@ -18,10 +18,10 @@ pub fn put_number(bytes: &mut Vec<u8>, mut number: usize) {
     bytes.push(number as u8);
 }
 
-/// Takes a number off the front: "Only the shortest form is read, of at most three groups."
+/// Takes a number off the front: "Only the shortest form is read", and "up to four" groups (document 02 §7).
 pub fn take_number(bytes: &mut &[u8]) -> Result<usize, Number> {
     let count = bytes.iter().take_while(|&&byte| byte >= 128).count() + 1;
-    if count > 3 || count > bytes.len() || (count > 1 && bytes[count - 1] == 0) {
+    if count > 4 || count > bytes.len() || (count > 1 && bytes[count - 1] == 0) {
         return Err(6);
     }
     let (groups, rest) = bytes.split_at(count);

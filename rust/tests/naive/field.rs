@@ -2,8 +2,9 @@
 
 pub const MODULUS: u32 = 257;
 
-/// "The twelve points are 1, 3, 9, .., the powers of 3."
-pub const POINTS: [u32; 12] = [1, 3, 9, 27, 81, 243, 215, 131, 136, 151, 196, 74];
+/// "The twelve points are 1, 3, 9, .., the powers of 3", and "the points for nodes 12 and 13 are 222 and 152" (document
+/// 02 §7).
+pub const POINTS: [u32; 14] = [1, 3, 9, 27, 81, 243, 215, 131, 136, 151, 196, 74, 222, 152];
 
 pub fn add(x: u32, y: u32) -> u32 {
     (x + y) % MODULUS

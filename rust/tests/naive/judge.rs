@@ -40,9 +40,9 @@ fn refuse_unless(holds: bool, number: Number) -> Result<(), Number> {
     }
 }
 
-/// "n is 3 to 12, k is 1 to n−2 .. L is 1 to 15."
+/// "n may be 3 to 14" (document 02 §7), "k is 1 to n−2 .. L is 1 to 15."
 pub fn judge_shape(shape: Shape) -> Result<(), Number> {
-    let n = (3..=12).contains(&shape.n);
+    let n = (3..=14).contains(&shape.n);
     let k = n && (1..=shape.n - 2).contains(&shape.k);
     refuse_unless(k && (1..=15).contains(&shape.layers), 1)
 }

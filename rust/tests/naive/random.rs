@@ -75,9 +75,10 @@ impl Random {
         self.some_of(&all, count)
     }
 
-    /// Any n and k in range, and layers that keep n × N within the bound, but at least one.
+    /// Any n and k in range, and layers that keep n × N within the bound, but at least one. More than twelve nodes come up
+    /// seldom: they take long.
     pub fn shape(&mut self, bound: usize) -> Shape {
-        let n = self.between(3, 12);
+        let n = if self.once_in(40) { self.between(13, 14) } else { self.between(3, 12) };
         let k = self.between(1, n - 2);
         let most_layers = (bound / (n << n)).clamp(1, 15);
         Shape { n, k, layers: self.between(1, most_layers) }
@@ -86,6 +87,11 @@ impl Random {
     /// Dead nodes and helpers of an accepted repair, but perhaps for the layers.
     pub fn dead_and_helpers(&mut self, shape: Shape) -> (Vec<usize>, Vec<usize>) {
         let h = self.between(1, shape.equations() - 1);
+        self.sets(shape, h)
+    }
+
+    /// So many dead nodes, and helpers for them.
+    pub fn sets(&mut self, shape: Shape, h: usize) -> (Vec<usize>, Vec<usize>) {
         let dead = self.nodes(shape, h);
         let living: Vec<usize> = (0..shape.n).filter(|node| !dead.contains(node)).collect();
         let helpers = self.some_of(&living, shape.k + 1);
@@ -103,7 +109,7 @@ impl Random {
     pub fn hostile(&mut self, number: usize) -> usize {
         let low = number.wrapping_sub(1);
         let truncates = number.wrapping_add(1 << self.choose(&[8, 16, 32, 63]));
-        let far = self.choose(&[0, 2, 13, 16, 64, 255, 256, 65535, usize::MAX, usize::MAX / 2 + 1]);
+        let far = self.choose(&[0, 2, 15, 16, 64, 255, 256, 65535, usize::MAX, usize::MAX / 2 + 1]);
         self.choose(&[low, number + 1, truncates, far])
     }
 

@@ -4,7 +4,7 @@ use super::digest::{line, mixed, mixed_all, next, number, numbers, random_symbol
 use hmsr::{Checked, Shape};
 
 /// n, k, L and the length of the transcript.
-const CASES: [(usize, usize, usize, usize); 21] = [
+const CASES: [(usize, usize, usize, usize); 29] = [
     (3, 1, 1, 0),
     (3, 1, 1, 2),
     (3, 1, 1, 8),
@@ -26,6 +26,14 @@ const CASES: [(usize, usize, usize, usize); 21] = [
     (12, 6, 1, 20000),
     (12, 10, 1, 40960),
     (12, 7, 15, 430_000),
+    (13, 1, 1, 8192),
+    (13, 6, 1, 40001),
+    (13, 11, 1, 90111),
+    (14, 1, 1, 16383),
+    (14, 2, 1, 30001),
+    (14, 7, 2, 229_376),
+    (14, 12, 1, 196_608),
+    (14, 12, 15, 2_949_120),
 ];
 
 struct Archive<'a> {

@@ -3,19 +3,23 @@
 //! plan, 4 for a buffer that is too short, and any other number for the text of a refusal.
 
 use super::digest::{group_line, Tally};
-use super::forms::with_form;
+use super::forms::{coded, with_form};
 use hmsr::{plan, PLAN_TEXT};
 
 /// "For input bytes 4 1 3 2 0 1 2 3".
 const SAMPLE: [u8; 8] = [4, 1, 3, 2, 0, 1, 2, 3];
 
-const LAYERS: [u8; 6] = [0, 1, 2, 3, 15, 16];
+const LAYERS: [u8; 7] = [0, 1, 2, 3, 13, 15, 16];
 
-/// Plans in full: dead nodes 1 2 4 with helpers 0 3; 3 with the other eleven nodes; 0 to 9 with 10 11.
-const IN_FULL: [&[u8]; 3] = [
+/// Plans in full: dead nodes 1 2 4 with helpers 0 3; 3 with the other eleven nodes; 0 to 9 with 10 11; 0 to 11 with
+/// 12 13, the most transfers; eleven dead nodes with 3 8 12; 13 with the other thirteen, the longest messages.
+const IN_FULL: [&[u8]; 6] = [
     &[5, 1, 4, 3, 1, 2, 4, 0, 3],
     &[12, 10, 15, 1, 3, 0, 1, 2, 4, 5, 6, 7, 8, 9, 10, 11],
     &[12, 1, 11, 10, 0, 1, 2, 3, 4, 5, 6, 7, 8, 9, 10, 11],
+    &[14, 1, 13, 12, 0, 1, 2, 3, 4, 5, 6, 7, 8, 9, 10, 11, 12, 13],
+    &[14, 2, 3, 11, 0, 1, 2, 4, 5, 6, 7, 9, 10, 11, 13, 3, 8, 12],
+    &[14, 12, 15, 1, 13, 0, 1, 2, 3, 4, 5, 6, 7, 8, 9, 10, 11, 12],
 ];
 
 /// The number of a text: a plan has more than one line.
@@ -56,14 +60,14 @@ fn changed(i: usize) -> Vec<u8> {
     input
 }
 
-/// A number of one to four groups in place of each byte of the sample, and behind it.
+/// One to five groups in place of each byte of the sample, and behind it.
 fn spliced(i: usize) -> Vec<u8> {
-    with_form(&SAMPLE, i % 9, (i / 9 % 4 + 1) as u32, i / 36)
+    with_form(&SAMPLE, i % 9, &coded(i / 9 % 5 + 1, i / 45))
 }
 
 /// Shapes and h, with the nodes in their order.
 fn fronts(i: usize) -> Vec<u8> {
-    let (n, k, layers, h) = ((i % 15) as u8, (i / 15 % 13) as u8, LAYERS[i / 195 % 6], (i / 1170) as u8);
+    let (n, k, layers, h) = ((i % 17) as u8, (i / 17 % 15) as u8, LAYERS[i / 255 % 7], (i / 1785) as u8);
     [n, k, layers, h].into_iter().chain(0..h + k + 1).collect()
 }
 
@@ -82,10 +86,10 @@ fn orders(i: usize) -> Vec<u8> {
     [5, 1, layers, 2].into_iter().chain(nodes).collect()
 }
 
-/// n = 12, k = 1, h = 10, twelve nodes of three groups that are no nodes, and bytes left over.
+/// n = 14, k = 1, h = 12, fourteen nodes of four groups that are no nodes, and bytes left over.
 fn long(i: usize) -> Vec<u8> {
-    let nodes = [129, 129, 1].into_iter().cycle();
-    [12, 1, 11, 10].into_iter().chain(nodes).take(i).collect()
+    let nodes = [129, 129, 129, 1].into_iter().cycle();
+    [14, 1, 13, 12].into_iter().chain(nodes).take(i).collect()
 }
 
 /// The line of a group of inputs, each with a buffer that is long enough.
@@ -97,12 +101,12 @@ pub fn lines() -> String {
     let groups = [
         input_line("cut", 10, cut),
         input_line("changed", 2048, changed),
-        input_line("spliced", 46656, spliced),
-        input_line("fronts", 16380, fronts),
+        input_line("spliced", 349_920, spliced),
+        input_line("fronts", 28560, fronts),
         input_line("lists", 12288, lists),
         input_line("orders", 3888, orders),
-        input_line("long", 60, long),
-        group_line("rooms", 1344, |tally, i| plan_into_room(tally, &SAMPLE, i)),
+        input_line("long", 80, long),
+        group_line("rooms", PLAN_TEXT + 5, |tally, i| plan_into_room(tally, &SAMPLE, i)),
     ];
     groups.concat() + &IN_FULL.map(in_full).concat()
 }

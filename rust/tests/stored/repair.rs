@@ -6,7 +6,7 @@ use super::trial::{nodes_of, Role, Trial};
 use hmsr::{Repair, Shape};
 
 /// Larger shapes: n, k, h, L, how many random repairs, and whether the archive is a codeword.
-const LARGE: [(usize, usize, usize, usize, usize, bool); 39] = [
+const LARGE: [(usize, usize, usize, usize, usize, bool); 48] = [
     (9, 5, 2, 3, 5, true),
     (9, 4, 4, 5, 5, true),
     (9, 3, 5, 3, 5, true),
@@ -46,6 +46,16 @@ const LARGE: [(usize, usize, usize, usize, usize, bool); 39] = [
     (11, 2, 8, 9, 2, false),
     (12, 1, 10, 11, 1, false),
     (12, 5, 5, 15, 1, false),
+    // "Exact repair and its total cover the new sizes" (document 02 §7); h = 11 and h = 12 are new with them.
+    (13, 1, 11, 3, 2, true),
+    (14, 1, 11, 3, 1, true),
+    (14, 2, 11, 3, 2, true),
+    (14, 1, 12, 13, 1, true),
+    (13, 5, 7, 1, 2, true),
+    (14, 10, 3, 1, 2, true),
+    (14, 12, 1, 1, 2, true),
+    (13, 1, 11, 6, 1, false),
+    (14, 2, 11, 3, 1, false),
 ];
 
 /// The repairs of an archive.

@@ -6,7 +6,7 @@ use super::trial::{nodes_of, Role, Trial};
 use hmsr::{Refusal, Repair};
 
 /// n, k, h, L, and whether the archive is a codeword.
-const CASES: [(usize, usize, usize, usize, bool); 24] = [
+const CASES: [(usize, usize, usize, usize, bool); 28] = [
     (3, 1, 1, 1, true),
     (3, 1, 1, 15, false),
     (4, 1, 2, 3, false),
@@ -31,6 +31,11 @@ const CASES: [(usize, usize, usize, usize, bool); 24] = [
     (12, 2, 9, 15, true),
     (12, 5, 5, 15, false),
     (12, 10, 1, 15, false),
+    // h = 11 and h = 12 are new with document 02 §7.
+    (13, 1, 11, 3, false),
+    (13, 1, 11, 6, true),
+    (14, 2, 11, 3, false),
+    (14, 1, 12, 13, false),
 ];
 
 /// A repair that was made, with the nodes and the wire afterwards.

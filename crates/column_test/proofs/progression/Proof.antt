@@ -7,6 +7,7 @@ use Rattle.lists.proofs.Buffers.{filled, filled-none, filled-more, filled-end}
 use Rattle.column_test.specs.Progression.{stepped}
 use native.Mathlib.Nat.{mul-le-mul}
 use borrow.Author.Needs.{needs}
+use Rattle.column.specs.Solving.{mostEntries}
 use Rattle.column_test.proofs.progression.Statement.{statement}
 use Rattle.column_test.proofs.progression.Tie as tie
 
@@ -20,8 +21,8 @@ abbrev μ-loop : tie.MeasureT-loop
 loop-holds : tie.Need-loop-holds Inv-loop μ-loop
 loop-holds c = (search needs, search needs, refl, filled-none _ _)
 
-small : (c : tie.In-loop Inv-loop μ-loop) → c .before .loop .i * c .before .before .args .step ≤ 12 * 20
-small c = mul-le-mul {n₁ = c .before .loop .i} {m₁ = c .before .before .args .step} {n₂ = 12} {m₂ = 20} (omega arith) (omega arith)
+small : (c : tie.In-loop Inv-loop μ-loop) → c .before .loop .i * c .before .before .args .step ≤ (mostEntries - 1) * 18
+small c = mul-le-mul {n₁ = c .before .loop .i} {m₁ = c .before .before .args .step} {n₂ = mostEntries - 1} {m₂ = 18} (omega arith) (omega arith)
 
 mul-points : tie.Need-mul-points Inv-loop μ-loop
 mul-points c = omega (arith, small c)

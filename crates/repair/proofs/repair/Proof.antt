@@ -1,14 +1,13 @@
--- `repair::repair` meets its contract: turned back, or the wire and the nodes of the whole repair, assembled. Assumes nothing.
+-- `repair::repair` meets its contract: turned back, or the work is done with a table, small or large. Assumes nothing.
 use mathlib.Core.Path.{_≡_, sym, ap, _∙_}
-use native.Mathlib.Omega.{arith}
 use borrow.Author.Needs.{needs}
 use lib.ListN.{length}
 use Rattle.shape.specs.Refusals.{answerNumber}
 use Rattle.code.specs.Code.{narrow}
 use Rattle.judging.specs.Refusals.{wholeRefusal}
-use Rattle.judging.proofs.Judged.{turned-back, turned-number, lists-ready, lists-accepted, WholePassed, whole-passed}
+use Rattle.judging.proofs.Judged.{turned-back, turned-number, lists-ready, WholePassed, whole-passed}
+use Rattle.classes.proofs.Layouts.{bounded}
 use Rattle.repair.proofs.Promised.{repaired-promise}
-use Rattle.repair.proofs.Assembly.{wire-due, wired, wire-is, renewable, nodes-are}
 use Rattle.repair.proofs.repair.Statement.{statement}
 use Rattle.repair.proofs.repair.Tie as tie
 
@@ -33,53 +32,21 @@ known c = whole-passed _ _ _ _ _ (none c)
 laid-out-requires : tie.Need-laid-out-requires
 laid-out-requires c κs = lists-ready _ _ _ _ (known c .listed)
 
-told-by-requires : tie.Need-told-by-requires
-told-by-requires c κs =
-    let A = lists-accepted _ _ _ _ (known (c .before) .listed) in
-    (c .laid-out .ensures .1, rw (c .laid-out .ensures .0) (A .lists .helpers-count))
+refill-requires : tie.Need-refill-requires
+refill-requires c κs = let g = c .before .before .before .before .before .laid-out .ensures in (rw (g .0) (none (c .before .before .before .before .before .before)), g .1, search needs)
 
-send-requires : tie.Need-send-requires
-send-requires c κs =
-    let k = known (c .before .before .before .before) in
-    let A = lists-accepted _ _ _ _ (k .listed) in
-    let g = c .before .before .before .laid-out .ensures in (
-      (g .1, c .before .before .told-by .ensures, rw (g .0) (A .lists .helpers-rising), rw (g .0) (A .lists .helpers-count)),
-      (rw (g .0) (k .long), rw (g .0) (omega (arith, k .due, wire-due (c .before .before .before .before .before .before .before .before .before .before .before .before .args .s) (c .before .before .before .before .before .before .before .before .before .before .before .before .args .dead .now) (A .lists .some-dead)))),
-    )
-
-exchange-requires : tie.Need-exchange-requires
-exchange-requires c κs =
-    let k = known (c .before .before .before .before .before .before .before .before .before) in
-    let A = lists-accepted _ _ _ _ (k .listed) in
-    let g = c .before .before .before .before .before .before .before .before .laid-out .ensures in
-    (g .1, c .before .before .before .before .before .before .before .told-by .ensures, rw (g .0) (k .long), rw (g .0) (wired _ _ _ _ _ _ A (k .due) (rw (g .0) at (c .before .before .before .before .send .ensures))))
-
-renew-requires : tie.Need-renew-requires
-renew-requires c κs =
-    let k = known (c .before .before .before .before .before .before .before .before .before .before .before .before .before .before .before .before) in
-    let A = lists-accepted _ _ _ _ (k .listed) in
-    let g = c .before .before .before .before .before .before .before .before .before .before .before .before .before .before .before .laid-out .ensures in
-    let E = c .before .before .before .before .before .before .exchange .ensures in
-    let G = c .before .before .before .before .before .before .before .before .before .before .before .send .ensures in (
-      g .1,
-      c .before .before .before .before .before .before .before .before .before .before .before .before .before .before .told-by .ensures,
-      rw (g .0) (E .nodes-long ∙ k .long),
-      rw (g .0) (E .long ∙ G .long ∙ k .due ∙ wire-due _ _ (A .lists .some-dead)),
-      rw (g .0) (renewable _ _ _ _ _ _ A (k .due) (rw (g .0) at G) _ _ (rw (g .0) at E)),
-    )
+refill-requires-2 : tie.Need-refill-requires-2
+refill-requires-2 c κs = let g = c .before .before .before .before .before .laid-out .ensures in (rw (g .0) (none (c .before .before .before .before .before .before)), g .1, bounded (g .1) .places-high)
 
 returns-2 : tie.Need-returns-2
 returns-2 c =
-    let e = none (c .before .before .before .before .before .before .before .before .before .before .before .before .before .before .before .before .before .before .before) in
-    let k = known (c .before .before .before .before .before .before .before .before .before .before .before .before .before .before .before .before .before .before .before) in
-    let A = lists-accepted _ _ _ _ (k .listed) in
-    let g = c .before .before .before .before .before .before .before .before .before .before .before .before .before .before .before .before .before .before .laid-out .ensures .0 in
-    let G = rw g at (c .before .before .before .before .before .before .before .before .before .before .before .before .before .before .send .ensures) in
-    let E = rw g at (c .before .before .before .before .before .before .before .before .before .exchange .ensures) in
-    let R = rw g at (c .before .before .renew .ensures) in
-    let w = wire-is _ _ _ _ _ _ A (k .due) G _ _ E in
-    let n = nodes-are _ _ _ _ _ _ A (k .due) G _ _ E _ (k .long) R in
-    repaired-promise _ _ _ _ _ _ _ e w n
+    let R = rw (c .before .before .before .before .before .before .before .before .before .before .before .laid-out .ensures .0) at (c .before .before .before .before .before .refill .ensures) in
+    repaired-promise _ _ _ _ _ _ _ (none (c .before .before .before .before .before .before .before .before .before .before .before .before)) (R .sent) (R .restored)
+
+returns-3 : tie.Need-returns-3
+returns-3 c =
+    let R = rw (c .before .before .before .before .before .before .before .before .before .before .before .laid-out .ensures .0) at (c .before .before .before .before .before .refill2 .ensures) in
+    repaired-promise _ _ _ _ _ _ _ (none (c .before .before .before .before .before .before .before .before .before .before .before .before)) (R .sent) (R .restored)
 
 pub repair-spec : {M : Type 1} → statement M
 repair-spec =
@@ -91,10 +58,13 @@ repair-spec =
     (λ c. search needs)
     returns
     laid-out-requires
-    told-by-requires
-    send-requires
-    exchange-requires
-    renew-requires
+    (λ c. search needs)
+    refill-requires
+    (λ c. search needs)
+    refill-requires-2
     (λ c. search needs)
     (λ c. search needs)
-    returns-2)
+    returns-2
+    (λ c. search needs)
+    (λ c. search needs)
+    returns-3)

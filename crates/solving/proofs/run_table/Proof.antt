@@ -38,14 +38,14 @@ idle-requires c κs = bounded (c .before .before .before .before .before .before
 loop-holds : tie.Need-loop-holds Inv-loop μ-loop
 loop-holds c = (omega arith, refl, λ k h. absurd (omega arith))
 
--- the run is within the class, and there are no more than 4096 a
+-- the run is within the class, whose numbers are few
 inside : (c : tie.In-loop Inv-loop μ-loop) → let a = c .before .before .before .before .before .before .before .before .before .args in (a .first + c .before .loop .t < length (a .class .now)) × (a .first + c .before .loop .t < 2 ^ mostNodes)
 inside c =
     let st = c .before .before .before .before .before .before .before .before .before in
     let p = st .pre .1 in
     let f = members-few (st .args .dead .now) (rankClass (st .args .dead .now) (st .args .u)) (2 ^ st .args .g .shape .n) in
     let h = shape-accepted (st .args .g .shape) (st .pre .0 .0 .shaped) .places-high in
-    (omega (arith, p .0 .long, p .2, f, h), omega (arith, p .2, f, h))
+    (omega (arith, p .0 .1, st .pre .0 .0 .places-is, p .2, f), omega (arith, p .2, f, h))
 
 add-each : tie.Need-add-each Inv-loop μ-loop
 add-each c = omega (arith, inside c)
@@ -105,7 +105,7 @@ returns c =
     let st = c .before .before .before .before .before .before .before .before .before .before .before .before .before .before .before in
     let l = c .before .before .before .before .before .before .before .loop in
     let T = c .before .before .entry-multipliers .ensures in
-    (T .long, T .low, class-multiplied (st .pre .0 .0) _ (c .before .before .before .before .before .before .before .before .idle .ensures) _ (st .args .u) (st .args .first) (st .args .run) _ (l .each) _ (st .pre .1 .0) (st .pre .1 .2) (λ t h. l .inv .2 t (omega arith)) T)
+    (T .long, T .low, class-multiplied (st .pre .0 .0) _ (c .before .before .before .before .before .before .before .before .idle .ensures) _ (st .args .u) (st .args .first) (st .args .run) _ (l .each) _ (st .pre .1 .0 .0) (st .pre .1 .2) (λ t h. l .inv .2 t (omega arith)) T)
 
 pub run-table-spec : {M : Type 1} → statement M
 run-table-spec =

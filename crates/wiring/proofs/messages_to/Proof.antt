@@ -24,28 +24,28 @@ use Rattle.wiring.proofs.messages_to.Statement.{statement}
 use Rattle.wiring.proofs.messages_to.Tie as tie
 
 abbrev Inv-loop : tie.InvT-loop
-Inv-loop g dead helpers u nodes out₀ share full j₀ j-end out j =
+Inv-loop g dead helpers u class nodes out₀ share full j₀ j-end out j =
     (j ≤ length helpers) × (j-end ≡ length helpers) × (length out ≡ length out₀)
     × (out ≡ onto (flat j (fromHelper narrow (g .shape) dead helpers nodes u)) out₀)
 
 abbrev μ-loop : tie.MeasureT-loop
-μ-loop g dead helpers u nodes out₀ share full j₀ j-end out j = j-end - j
+μ-loop g dead helpers u class nodes out₀ share full j₀ j-end out j = j-end - j
 
 size-requires : tie.Need-size-requires Inv-loop μ-loop
-size-requires c κs = c .before .before .before .before .pre .0 .0 .shaped
+size-requires c κs = c .before .before .before .before .before .before .before .before .before .before .pre .0 .0 .shaped
 
 loop-holds : tie.Need-loop-holds Inv-loop μ-loop
-loop-holds c = (omega arith, refl, refl, onto-none _ ∙ ap (λ z. onto z (c .before .before .before .before .before .args .out .now)) (sym (flat-none _)))
+loop-holds c = (omega arith, refl, refl, onto-none _ ∙ ap (λ z. onto z (c .before .before .before .before .before .before .before .before .before .before .before .args .out .now)) (sym (flat-none _)))
 
 -- both parts are within their buffers
 within : (c : tie.In-loop Inv-loop μ-loop) →
-    let a = c .before .before .before .before .before .before .before .args in
+    let a = c .before .before .before .before .before .before .before .before .before .before .before .before .before .args in
     let full = c .before .before .size .result in
     let i = getD (a .helpers .now) (c .before .loop .j) 0 in
     (i * full + full ≤ length (a .nodes .now)) × (length (a .nodes .now) ≤ mostNodes * mostSize) × (c .before .loop .j * a .g .share + a .g .share ≤ length (c .before .loop .out))
     × (length (c .before .loop .out) ≤ mostNodes * mostNodes * mostSize) × (a .g .share ≡ messageSize (a .g .shape) (a .dead .now))
 within c =
-    let st = c .before .before .before .before .before .before .before in
+    let st = c .before .before .before .before .before .before .before .before .before .before .before .before .before in
     let a = st .args in
     let R = st .pre .0 .0 in
     let h = shape-accepted _ (R .shaped) in
@@ -73,47 +73,58 @@ mul-at c = omega (arith, within (c .before))
 add-end : tie.Need-add-end Inv-loop μ-loop
 add-end c = omega (arith, within (c .before))
 
-mul-message-to : tie.Need-mul-message-to Inv-loop μ-loop
-mul-message-to c = omega (arith, within (c .before))
+mul-message-by : tie.Need-mul-message-by Inv-loop μ-loop
+mul-message-by c = omega (arith, within (c .before .before))
 
-part-message-to-end : tie.Need-part-message-to-end Inv-loop μ-loop
-part-message-to-end c = within (c .before) .0
+part-message-by-end : tie.Need-part-message-by-end Inv-loop μ-loop
+part-message-by-end c = within (c .before .before) .0
 
-mul-message-to-2 : tie.Need-mul-message-to-2 Inv-loop μ-loop
-mul-message-to-2 c = omega (arith, within (c .before .before))
+mul-message-by-2 : tie.Need-mul-message-by-2 Inv-loop μ-loop
+mul-message-by-2 c = omega (arith, within (c .before .before .before))
 
-part-message-to-end-2 : tie.Need-part-message-to-end-2 Inv-loop μ-loop
-part-message-to-end-2 c = within (c .before .before) .2
+part-message-by-end-2 : tie.Need-part-message-by-end-2 Inv-loop μ-loop
+part-message-by-end-2 c = within (c .before .before .before) .2
 
-message-to-requires : tie.Need-message-to-requires Inv-loop μ-loop
-message-to-requires c κs =
-    let st = c .before .before .before .before .before .before .before .before .before .before in
-    let w = within (c .before .before .before) in
-    (st .pre .0 .0, st .pre .0 .1, simp (length-take, length-drop) (omega (arith, w .0, c .before .before .before .before .before .size .ensures)), simp (length-take, length-drop) (omega (arith, w .2, w .4)))
+message-by-requires : tie.Need-message-by-requires Inv-loop μ-loop
+message-by-requires c κs =
+    let st = c .before .before .before .before .before .before .before .before .before .before .before .before .before .before .before .before .before in
+    let i = c .before .before .before .before in
+    let w = within i in
+    let m = c .before .before .before .before .before .before .before .before .before .list-members in (
+      st .pre .0 .0,
+      st .pre .0 .1,
+      omega (arith, st .pre .0 .3, m .kept .1 .1 .1 .0),
+      rw (c .before .before .before .before .before .before .before .before .before .before .before .rank-class .ensures) at (m .ensures),
+      simp (length-take, length-drop) (omega (arith, w .0, i .before .before .size .ensures)),
+      simp (length-take, length-drop) (omega (arith, w .2, w .4)),
+    )
 
 loop-again : tie.Need-loop-again Inv-loop μ-loop
 unfolding fromHelper
 loop-again c =
-    let st = c .before .before .before .before .before .before .before .before .before .before .before .before .before in
+    let st = c .before .before .before .before .before .before .before .before .before .before .before .before .before .before .before .before .before .before .before .before in
     let a = st .args in
     let R = st .pre .0 .0 in
-    let l = c .before .before .before .before .before .before .before .loop in
+    let l = c .before .before .before .before .before .before .before .before .loop in
     let s = R .share-is in
     let i = getD (a .helpers .now) (l .j) 0 in
-    let full = c .before .before .before .before .before .before .before .before .size .result in
-    let m = c .before .before .message-to in (
+    let full = c .before .before .before .before .before .before .before .before .before .size .result in
+    let m = c .before .before .message-by in (
       omega arith,
       refl,
-      same-len-mid (l .j * a .g .share) (l .j * a .g .share + a .g .share - l .j * a .g .share) (l .out) (m .last .1 .1 .1 .1 .0) (m .kept .1 .1 .1 .1 .0) ∙ l .inv .2,
+      same-len-mid (l .j * a .g .share) (l .j * a .g .share + a .g .share - l .j * a .g .share) (l .out) (m .last .1 .1 .1 .1 .1 .0) (m .kept .1 .1 .1 .1 .1 .0) ∙ l .inv .2,
       flat-put (a .g .share) (fromHelper narrow (a .g .shape) (a .dead .now) (a .helpers .now) (a .nodes .now) (a .u))
           (λ j. message-length (ready-dead R) narrow _ _ ∙ sym s) (a .out .now) (l .j) (l .out) _ (l .inv .3)
-          (m .ensures ∙ ap (helperMessage narrow (a .g .shape) (a .dead .now) (a .u)) (piece-part full i (a .nodes .now) ∙ ap (λ z. piece z i (a .nodes .now)) (c .before .before .before .before .before .before .before .before .size .ensures))),
+          (m .ensures ∙ ap (helperMessage narrow (a .g .shape) (a .dead .now) (a .u)) (piece-part full i (a .nodes .now) ∙ ap (λ z. piece z i (a .nodes .now)) (c .before .before .before .before .before .before .before .before .before .size .ensures))),
     )
+
+same-length : tie.Need-same-length Inv-loop μ-loop
+same-length c = c .before .before .before .before .before .list-members .kept .1 .1 .1 .0
 
 returns : tie.Need-returns Inv-loop μ-loop
 unfolding fromHelpers fromHelper
 returns c =
-    let st = c .before .before .before .before .before .before .before in
+    let st = c .before .before .before .before .before .before .before .before .before .before .before .before .before in
     let a = st .args in
     let l = c .before .loop in
     let R = st .pre .0 .0 in
@@ -128,6 +139,8 @@ messages-to-spec =
     (tie.spec
     Inv-loop
     μ-loop
+    (λ c κs. search needs)
+    (λ c κs. search needs)
     size-requires
     loop-holds
     (λ c. search needs)
@@ -136,17 +149,18 @@ messages-to-spec =
     add-to
     mul-at
     add-end
-    mul-message-to
+    mul-message-by
     (λ c. search needs)
     (λ c. search needs)
-    part-message-to-end
-    mul-message-to-2
+    part-message-by-end
+    mul-message-by-2
     (λ c. search needs)
     (λ c. search needs)
-    part-message-to-end-2
-    message-to-requires
+    part-message-by-end-2
+    message-by-requires
     (λ c. search needs)
     (λ c. search needs)
     loop-again
+    same-length
     (λ c. search needs)
     returns)

@@ -39,7 +39,7 @@ inside c =
     let p = st .pre in
     let f = members-few (st .args .dead .now) (rankClass (st .args .dead .now) (st .args .u)) (2 ^ st .args .g .shape .n) in
     let h = shape-accepted (st .args .g .shape) (p .0 .shaped) .places-high in
-    (omega (arith, p .2 .long, p .4, f, h), omega (arith, p .4, f, h))
+    (omega (arith, p .2 .1, p .0 .places-is, p .4, f), omega (arith, p .4, f, h))
 
 add-out : tie.Need-add-out Inv-loop μ-loop
 add-out c = omega (arith, inside c)
@@ -68,7 +68,7 @@ returns c =
     let st = c .before .before .before .before .before in
     let p = st .pre in (
       l .inv .1,
-      λ t h. l .inv .2 t (omega arith) ∙ offset-turned (p .0) (st .args .u) (st .args .which) (st .args .first + t) _ _ (p .1) (p .5) (omega (arith, p .4)) (p .2 .each (st .args .first + t) (omega (arith, p .4))) (c .before .before .turn-of .ensures),
+      λ t h. l .inv .2 t (omega arith) ∙ offset-turned (p .0) (st .args .u) (st .args .which) (st .args .first + t) _ _ (p .1) (p .5) (omega (arith, p .4)) (p .2 .0 .each (st .args .first + t) (omega (arith, p .4))) (c .before .before .turn-of .ensures),
     )
 
 pub offsets-spec : {M : Type 1} → statement M

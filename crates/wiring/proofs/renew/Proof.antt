@@ -19,35 +19,35 @@ use Rattle.wiring.proofs.renew.Statement.{statement}
 use Rattle.wiring.proofs.renew.Tie as tie
 
 abbrev Inv-loop : tie.InvT-loop
-Inv-loop g dead told nodes₀ wire full base part count u₀ nodes u =
-    (u ≤ length dead) × (count ≡ length dead) × Renewing (g .shape) dead u nodes₀ nodes wire
+Inv-loop g dead told class₀ nodes₀ wire full base part count u₀ class nodes u =
+    (u ≤ length dead) × (count ≡ length dead) × Renewing (g .shape) dead u nodes₀ nodes wire × (length class ≡ length class₀)
 
 abbrev μ-loop : tie.MeasureT-loop
-μ-loop g dead told nodes₀ wire full base part count u₀ nodes u = count - u
+μ-loop g dead told class₀ nodes₀ wire full base part count u₀ class nodes u = count - u
 
 size-requires : tie.Need-size-requires Inv-loop μ-loop
-size-requires c κs = c .before .before .before .pre .0 .shaped
+size-requires c κs = c .before .before .before .before .pre .0 .shaped
 
 room : (c : tie.Start Inv-loop μ-loop) → Room (c .args .dead .now) (c .args .g) (c .args .told) 0
 room c = wire-room (c .pre .0) _ 0 (c .pre .1) (c .pre .0 .some)
 
 mul-base : tie.Need-mul-base Inv-loop μ-loop
-mul-base c = let r = room (c .before .before .before .before) in omega (arith, r .short)
+mul-base c = let r = room (c .before .before .before .before .before) in omega (arith, r .short)
 
 sub-part : tie.Need-sub-part Inv-loop μ-loop
-sub-part c = c .before .before .before .before .pre .0 .some
+sub-part c = c .before .before .before .before .before .pre .0 .some
 
 mul-part : tie.Need-mul-part Inv-loop μ-loop
 mul-part c =
-    let R = c .before .before .before .before .before .pre .0 in
-    rw (R .share-is) (omega (arith, mul-le-mul {n₁ = length (c .before .before .before .before .before .args .dead .now) - 1} {n₂ = mostNodes} {m₂ = mostSize} (omega (arith, bounded R .dead-high)) (share-high R)))
+    let R = c .before .before .before .before .before .before .pre .0 in
+    rw (R .share-is) (omega (arith, mul-le-mul {n₁ = length (c .before .before .before .before .before .before .args .dead .now) - 1} {n₂ = mostNodes} {m₂ = mostSize} (omega (arith, bounded R .dead-high)) (share-high R)))
 
 loop-holds : tie.Need-loop-holds Inv-loop μ-loop
-loop-holds c = (omega arith, refl, renewing-none _ _ _ _)
+loop-holds c = (omega arith, refl, renewing-none _ _ _ _, refl)
 
 -- the rank's node and its messages are within their buffers
 within : (c : tie.In-loop Inv-loop μ-loop) →
-    let a = c .before .before .before .before .before .before .before .args in
+    let a = c .before .before .before .before .before .before .before .before .args in
     let l = c .before .loop in
     let i = getD (a .dead .now) (l .u) 0 in
     let size = (length (a .dead .now) - 1) * a .g .share in
@@ -55,7 +55,7 @@ within : (c : tie.In-loop Inv-loop μ-loop) →
     × (length (a .dead .now) * a .told + l .u * size + size ≤ length (a .wire .now)) × (length (a .wire .now) ≤ 2 * (mostNodes * mostNodes * mostSize))
 unfolding node
 within c =
-    let st = c .before .before .before .before .before .before .before in
+    let st = c .before .before .before .before .before .before .before .before in
     let a = st .args in
     let l = c .before .loop in
     let R = st .pre .0 in
@@ -88,20 +88,20 @@ add-to : tie.Need-add-to Inv-loop μ-loop
 add-to c = omega (arith, within (c .before))
 
 mul-recover : tie.Need-mul-recover Inv-loop μ-loop
-mul-recover c = omega (arith, within (c .before))
+mul-recover c = omega (arith, within (c .before .before))
 
 part-recover-end : tie.Need-part-recover-end Inv-loop μ-loop
-part-recover-end c = within (c .before) .2
+part-recover-end c = within (c .before .before) .2
 
 mul-recover-2 : tie.Need-mul-recover-2 Inv-loop μ-loop
-mul-recover-2 c = omega (arith, within (c .before .before))
+mul-recover-2 c = omega (arith, within (c .before .before .before))
 
 part-recover-end-2 : tie.Need-part-recover-end-2 Inv-loop μ-loop
-part-recover-end-2 c = within (c .before .before) .0
+part-recover-end-2 c = within (c .before .before .before) .0
 
 -- what was lent, by the definitions
 lent : (c : tie.In-loop Inv-loop μ-loop) →
-    let a = c .before .before .before .before .before .before .before .args in
+    let a = c .before .before .before .before .before .before .before .before .args in
     let l = c .before .loop in
     let full = c .before .before .before .size .result in
     let at = getD (a .dead .now) (l .u) 0 * full in
@@ -111,7 +111,7 @@ lent : (c : tie.In-loop Inv-loop μ-loop) →
     × (take (at + full - at) (drop at (l .nodes)) ≡ piece (size (a .g .shape)) (node (a .dead .now) (l .u)) (l .nodes))
 unfolding node
 lent c =
-    let st = c .before .before .before .before .before .before .before in
+    let st = c .before .before .before .before .before .before .before .before in
     let a = st .args in
     let l = c .before .loop in
     let e = c .before .before .before .size .ensures in
@@ -122,13 +122,13 @@ lent c =
 
 recover-requires : tie.Need-recover-requires Inv-loop μ-loop
 recover-requires c κs =
-    let i = c .before .before .before in
-    let st = i .before .before .before .before .before .before .before in
+    let i = c .before .before .before .before in
+    let st = i .before .before .before .before .before .before .before .before in
     let l = i .before .loop in
     let w = within i in
     let e = st .pre .0 .share-is in
     let h : l .u < length (st .args .dead .now) = omega arith in (
-      (st .pre .0, omega arith),
+      (st .pre .0, omega arith, omega (arith, st .pre .5, l .inv .3)),
       (
         (simp (length-take, length-drop) (omega (arith, w, ap (λ z. (length (st .args .dead .now) - 1) * z) e)), simp (length-take, length-drop) (omega (arith, w, i .before .before .before .size .ensures))),
         (rw (lent i .0) (st .pre .4 .received (l .u) h), rw (lent i .1 ∙ renewing-own _ _ (ready-dead (st .pre .0)) (l .u) h _ _ _ (l .inv .2)) (st .pre .4 .own (l .u) h)),
@@ -138,19 +138,20 @@ recover-requires c κs =
 loop-again : tie.Need-loop-again Inv-loop μ-loop
 unfolding node
 loop-again c =
-    let st = c .before .before .before .before .before .before .before .before .before .before .before .before .before in
+    let st = c .before .before .before .before .before .before .before .before .before .before .before .before .before .before .before .before .before in
     let a = st .args in
-    let l = c .before .before .before .before .before .before .before .loop in
+    let l = c .before .before .before .before .before .before .before .before .before .before .loop in
     let R = st .pre .0 in
-    let e = c .before .before .before .before .before .before .before .before .before .size .ensures in
-    let i = c .before .before .before .before .before .before in
-    let last : List ℕ = c .before .before .recover .last .1 .1 .1 .1 .0 in
-    let long : length last ≡ size (a .g .shape) = c .before .before .recover .kept .1 .1 .1 .1 .0 ∙ simp (length-take, length-drop) (omega (arith, within (c .before .before .before .before .before .before), e)) in (
+    let e = c .before .before .before .before .before .before .before .before .before .before .before .before .size .ensures in
+    let i = c .before .before .before .before .before .before .before .before .before in
+    let last : List ℕ = c .before .before .before .before .recover .last .1 .1 .1 .1 .1 .0 in
+    let long : length last ≡ size (a .g .shape) = c .before .before .before .before .recover .kept .1 .1 .1 .1 .1 .0 ∙ simp (length-take, length-drop) (omega (arith, within i, e)) in (
       omega arith,
       refl,
       rw e
           (renewing-more (a .g .shape) (a .dead .now) (ready-dead R) (l .u) (omega arith) (a .nodes .now) (l .nodes) (a .wire .now) last (st .pre .2) long (l .inv .2)
-          (recovers-as _ _ _ _ _ _ _ _ (lent i .0) (lent i .1) (c .before .before .recover .ensures))),
+          (recovers-as _ _ _ _ _ _ _ _ (lent i .0) (lent i .1) (c .before .before .before .before .recover .ensures))),
+      c .before .before .before .before .recover .kept .1 .1 .1 .0 ∙ l .inv .3,
     )
 
 returns : tie.Need-returns Inv-loop μ-loop
@@ -186,5 +187,6 @@ renew-spec =
     (λ c. search needs)
     (λ c. search needs)
     loop-again
+    (λ c. search needs)
     (λ c. search needs)
     returns)
