@@ -7,7 +7,8 @@
  * A buffer is a pointer and its length in elements. A null pointer is allowed only with length 0. A buffer that a call writes (a
  * pointer without const) may overlap no other buffer of the call; buffers that it only reads may overlap each other. Lists of nodes
  * are strictly rising. No call keeps a pointer, allocates memory, or has a state of its own. hmsr_write, hmsr_check, hmsr_restore,
- * hmsr_open, hmsr_first_step and hmsr_repair need less than 48 KB of stack, the other calls less than 16 KB, whatever N is.
+ * hmsr_open, hmsr_first_step and hmsr_repair need less than 72 KB of stack, hmsr_helper_message and hmsr_second_step less than 36 KB, the
+ * other calls less than 16 KB, whatever N is.
  *
  * A call returns 0 where it did its work, and otherwise the number of the first cause for which it turned back, except where its
  * comment says so. The causes are judged in the order 1, 2, 3, 4, 5, 7; cards and the plan have orders of their own. Where a call

@@ -9,6 +9,8 @@ It shares nothing with the Rattle code or its definitions: numbers are taken apa
 """
 import sys
 
+from code_expected import shape_bad
+
 BIG = 2 ** 64 - 1
 SAMPLE = bytes([3, 1, 1, 1, 2, 253, 1, 247, 1, 0, 0, 0, 0, 0, 0])
 BYTES = [0, 1, 3, 128, 129, 255]
@@ -42,8 +44,7 @@ def number(data, at):
 
 
 def header_cause(n, k, layers, node, length):
-    # "n may be 3 to 14" (document 02 §7)
-    if not (3 <= n <= 14 and 1 <= k <= n - 2 and 1 <= layers <= 15):
+    if shape_bad(n, k, layers):
         return 1
     if not node < n:
         return 2
@@ -255,7 +256,8 @@ def numbers():
     run([(placed, 373248), (paired, 65536)])
 
 
-if sys.argv[1:] == ['numbers']:
-    numbers()
-else:
-    cards()
+if __name__ == '__main__':
+    if sys.argv[1:] == ['numbers']:
+        numbers()
+    else:
+        cards()

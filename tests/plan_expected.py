@@ -7,6 +7,8 @@
 It shares nothing with the Rattle code or its definitions. ROOM is the size that the call asks of a text buffer, the one
 number here that is not a document's.
 """
+from card_expected import number
+from code_expected import shape_bad
 
 # At n = 14, k = 1, h = 12: line 1 and 12 * 13 transfers of at most 13 bytes, and a total of at most 8.
 ROOM = 2049
@@ -16,26 +18,6 @@ LAYERS = [0, 1, 2, 3, 13, 15, 16]
 
 
 # ---- the paper
-
-def numeral(v):
-    """Groups of seven bits, least first; every byte but the last has 128 added."""
-    out = []
-    while v > 127:
-        out.append(v % 128 + 128)
-        v //= 128
-    return bytes(out + [v])
-
-
-def number(data, at):
-    """(value, place behind it), or None: only the shortest form is read, and "the card's number reading accepts up to
-    four" groups (document 02 §7)."""
-    for size in (1, 2, 3, 4):
-        form = data[at:at + size]
-        if len(form) == size and form[-1] < 128 and all(b > 127 for b in form[:-1]):
-            value = sum((b & 127) << (7 * i) for i, b in enumerate(form))
-            return (value, at + size) if numeral(value) == form else None
-    return None
-
 
 def numbers(data, at, count):
     found = []
@@ -54,8 +36,7 @@ def text(data):
     if first is None:
         return refused(6)
     (n, k, layers, h), at = first
-    # "n may be 3 to 14" (document 02 §7)
-    if not (3 <= n <= 14 and 1 <= k <= n - 2 and 1 <= layers <= 15):
+    if shape_bad(n, k, layers):
         return refused(1)
     if not 1 <= h <= n - k - 1:
         return refused(2)

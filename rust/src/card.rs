@@ -101,7 +101,7 @@ pub fn unpack_to_vec(card: &[u8]) -> Result<(Header, Vec<u16>), Refusal> {
 
 /// The N of a card's header. The library judges the header before the symbols' buffer, so with no room it refuses a
 /// bad header for what is wrong with it and a good one for the length. In a good one, the nodes, data nodes and layers
-/// are below 128 and take a byte each; N is at most 61 440, whatever the card says.
+/// are below 128 and take a byte each; N is at most 245 760, whatever the card says.
 fn symbols_announced(card: &[u8]) -> Result<usize, Refusal> {
     match unpack(card, &mut []) {
         Err(Refusal::WrongLength) => {}

@@ -1,4 +1,4 @@
--- `plan::write_lists` meets its contract: twelve places are enough for the listed nodes. Assumes nothing.
+-- `plan::write_lists` meets its contract: as many places as there are nodes at most are enough for the listed ones. Assumes nothing.
 use mathlib.Core.Path.{sym, ap}
 use Prim.Native.Nat.{_+_}
 use native.Mathlib.Omega.{arith}
