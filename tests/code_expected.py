@@ -1,5 +1,5 @@
 #!/usr/bin/env python3
-"""What rust/tests/stored.rs must print for archives, from documents 01 and 02 (§7) alone; it shares no code with the
+"""What rust/tests/stored.rs must print for archives, from documents 01 and 02 (§5, §7) alone; it shares no code with the
 archive.
 
     python3 tests/code_expected.py > tests/stored/code.txt
@@ -105,6 +105,11 @@ def check(n, k, layers, nodes):
                 if sum(p * x for p, x in zip(powers, column)) % Q:
                     return (layer, a, t)
                 powers = [p * point(i, a) % Q for i, p in enumerate(powers)]
+    # "otherwise the first such symbol by node then place is named" (document 02 §5)
+    for i in range(k):
+        for place in range(size):
+            if rows[i][place] > 255:
+                return (i, place)
     return 0
 
 
@@ -159,7 +164,7 @@ def mixed_all(h, xs):
 
 def mixed_check(h, answer):
     if isinstance(answer, tuple):
-        return mixed_all(mixed(h, 9), answer)
+        return mixed_all(mixed(h, 9 if len(answer) == 3 else 10), answer)
     return mixed(h, answer)
 
 

@@ -1,10 +1,7 @@
 //! Writing a transcript, checking all nodes, and restoring or opening from any k of them.
 use crate::ffi;
-use crate::refusal::{answer, cause};
+use crate::refusal::{answer, found};
 use crate::{Refusal, Shape};
-
-/// Where the numbers of unmet equations begin in the check's answer.
-const UNMET: usize = 256;
 
 /// What the check of all nodes answers. That a check was made says nothing: its answer has to be looked at.
 ///
@@ -17,9 +14,10 @@ const UNMET: usize = 256;
 #[derive(Clone, Copy, Debug, PartialEq, Eq, Hash)]
 #[must_use = "an unmet equation is an answer, not a refusal"]
 pub enum Checked {
-    /// Every parity equation is met.
+    /// The nodes are what writing some transcript of data × N bytes gives: every parity equation is met, and nodes 0 to
+    /// data - 1 hold nothing above 255.
     Sound,
-    /// The first equation that is not met, by layer, then a, then t.
+    /// The nodes do not agree: the first equation that is not met, by layer, then a, then t.
     Unmet {
         /// The layer.
         layer: usize,
@@ -27,6 +25,15 @@ pub enum Checked {
         a: usize,
         /// The power of the points, below nodes - data.
         t: usize,
+    },
+    /// The nodes agree, but they hold no transcript: every equation is met, and this is the first symbol of nodes 0 to
+    /// data - 1 that is above 255, by node, then place. Whichever nodes it is opened from, and with whichever length, the
+    /// answer is [`Refusal::NoTranscript`].
+    HighData {
+        /// The node, below data.
+        node: usize,
+        /// The symbol's place on that node, below N.
+        place: usize,
     },
 }
 
@@ -61,7 +68,7 @@ impl Shape {
         Ok(nodes)
     }
 
-    /// Whether all nodes (nodes × N symbols) meet the parity equations.
+    /// Whether all nodes (nodes × N symbols) meet the parity equations, and then whether they hold a transcript.
     ///
     /// ```
     /// use hmsr::{Checked, Shape};
@@ -70,29 +77,33 @@ impl Shape {
     /// assert_eq!(shape.check(&nodes)?, Checked::Sound);
     /// nodes[17] = 5;
     /// assert_eq!(shape.check(&nodes)?, Checked::Unmet { layer: 0, a: 1, t: 0 });
+    /// let nodes = shape.restore_nodes(&[0], &[3, 256, 0, 0, 0, 0, 0, 0])?;
+    /// assert_eq!(shape.check(&nodes)?, Checked::HighData { node: 0, place: 1 });
     /// # Ok::<(), hmsr::Refusal>(())
     /// ```
     ///
     /// # Errors
     ///
     /// [`Refusal::BadShape`], [`Refusal::WrongLength`], [`Refusal::BadSymbol`]. An equation that is not met is no
-    /// error, but [`Checked::Unmet`].
+    /// error, but [`Checked::Unmet`], and neither is a data symbol above 255: [`Checked::HighData`].
     pub fn check(&self, nodes: &[u16]) -> Result<Checked, Refusal> {
-        let number = ffi::check(*self, nodes);
-        if number == 0 {
-            return Ok(Checked::Sound);
+        match ffi::check(*self, nodes) {
+            0 => Ok(Checked::Sound),
+            number => found(number).map(|fault| self.fault(fault)),
         }
-        if number < UNMET {
-            return Err(cause(number));
-        }
-        Ok(self.unmet(number - UNMET))
     }
 
-    /// The equation with that number, (layer × 2^nodes + a) × (nodes - data) + t, of a shape within the ranges.
-    fn unmet(&self, equation: usize) -> Checked {
-        let r = self.nodes - self.data;
-        let place = equation / r;
-        Checked::Unmet { layer: place >> self.nodes, a: place % (1 << self.nodes), t: equation % r }
+    /// The fault with that number, of a shape within the ranges: an equation, (layer × 2^nodes + a) × (nodes - data) + t,
+    /// or, behind all of them, a symbol, node × N + place.
+    fn fault(&self, number: usize) -> Checked {
+        let (r, size) = (self.nodes - self.data, self.layers << self.nodes);
+        match number.checked_sub(r * size) {
+            Some(symbol) => Checked::HighData { node: symbol / size, place: symbol % size },
+            None => {
+                let place = number / r;
+                Checked::Unmet { layer: place >> self.nodes, a: place % (1 << self.nodes), t: number % r }
+            }
+        }
     }
 
     /// Restores all nodes (nodes × N symbols) from the k that are listed, rising, with their symbols (data × N).

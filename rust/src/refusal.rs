@@ -85,7 +85,7 @@ pub(crate) fn answer(number: usize) -> Result<(), Refusal> {
 /// Where what a call found begins in its answer; below are causes' numbers.
 const FIRST_FOUND: usize = 256;
 
-/// What a call answered that returns a length: 256 and the length, or a cause's number.
+/// What a call answered that returns what it found: 256 and that number, or a cause's.
 pub(crate) fn found(number: usize) -> Result<usize, Refusal> {
     number.checked_sub(FIRST_FOUND).ok_or_else(|| cause(number))
 }

@@ -9,7 +9,7 @@ mod naive;
 
 use compare::Lists;
 use naive::judge::batch_layers;
-use naive::random::Random;
+use naive::random::{codeword_of, Random};
 use naive::{Header, Number, Shape};
 
 /// n × N of most inputs, but one layer is always allowed.
@@ -30,12 +30,12 @@ impl Drop for Seed {
 /// hundred cases at least.
 fn try_cases(count: usize, numbers: &[Number], mut case: impl FnMut(&mut Random) -> Number) {
     let first = std::env::var("HMSR_SEED").map_or(1, |seed| seed.parse().expect("a number"));
-    let mut tally = [0; 10];
+    let mut tally = [0; 11];
     for seed in first..first + count as u64 {
         let seed = Seed(seed);
         tally[case(&mut Random::new(seed.0))] += 1;
     }
-    println!("numbers 0 to 9 came up {tally:?}");
+    println!("numbers 0 to 10 came up {tally:?}");
     for (number, &times) in tally.iter().enumerate() {
         assert_eq!(numbers.contains(&number), times > count / 200, "number {number} came up {times} times");
     }
@@ -72,9 +72,16 @@ fn write() {
 
 #[test]
 fn check() {
-    try_cases(1500, &[0, 1, 4, 5, 9], |random| {
+    try_cases(1500, &[0, 1, 4, 5, 9, 10], |random| {
         let mut shape = random_shape(random);
-        let mut nodes = random.codeword(shape);
+        let mut nodes = match random.below(4) {
+            0 => random.codeword(shape),
+            1 => {
+                let no_bytes = random.between(1, 3);
+                random.codeword_of_bytes(shape, no_bytes)
+            }
+            _ => random.codeword_of_bytes(shape, 0),
+        };
         let last = nodes.len() - 1;
         match random.below(10) {
             0 => random.spoil_shape(&mut shape),
@@ -113,6 +120,45 @@ fn check_finds_every_equation() {
         let unmet = hmsr::Checked::Unmet { layer: place / shape.width(), a: place % shape.width(), t };
         let checked = hmsr::Shape { nodes: 7, data: 2, layers: 2 }.check(&nodes);
         assert_eq!(checked, Ok(unmet));
+    }
+}
+
+/// For every data symbol, a codeword that has bytes before it, 256 there, and anything behind it. Where an equation of the
+/// last place is unmet besides, that comes first.
+#[test]
+fn check_finds_every_data_symbol() {
+    let mut random = Random::new(1);
+    let shape = Shape { n: 7, k: 3, layers: 2 };
+    let library = hmsr::Shape { nodes: 7, data: 3, layers: 2 };
+    let size = shape.symbols();
+    for e in 0..shape.capacity() {
+        let mut data = random.symbols(shape.capacity());
+        data[..e].iter_mut().for_each(|symbol| *symbol %= 256);
+        data[e] = 256;
+        let mut nodes = codeword_of(shape, &data);
+        assert_eq!(library.check(&nodes), Ok(hmsr::Checked::HighData { node: e / size, place: e % size }));
+        let last = nodes.last_mut().unwrap();
+        *last = (*last + 1) % 257;
+        assert_eq!(library.check(&nodes), Ok(hmsr::Checked::Unmet { layer: 1, a: 127, t: 0 }));
+    }
+}
+
+/// "An office was told its drives were sound, and opening them gave 7" (document 02 §5): data nodes full of 256.
+#[test]
+fn an_archive_of_256s_is_no_transcripts() {
+    let mut random = Random::new(1);
+    for n in 3..=12 {
+        for k in 1..=n - 2 {
+            let shape = Shape { n, k, layers: 1 };
+            let nodes = codeword_of(shape, &vec![256; shape.capacity()]);
+            assert_eq!(naive::check(shape, &nodes), Ok(Some(naive::Fault::Symbol { node: 0, place: 0 })));
+            assert_eq!(compare::check(shape, &nodes), 10);
+            let list = random.nodes(shape, k);
+            let symbols = symbols_of(shape, &nodes, &list);
+            for length in [0, 1, shape.capacity()] {
+                assert_eq!(compare::open(&mut random, shape, &list, &symbols, length, length), 7);
+            }
+        }
     }
 }
 

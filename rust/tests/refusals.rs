@@ -5,7 +5,7 @@ mod naive;
 
 use hmsr::{Checked, Refusal, Repair, Shape};
 use naive::lent::Lent;
-use naive::random::Random;
+use naive::random::{codeword_of, Random};
 
 const N: usize = 192;
 /// N/(h+1) of the two dead nodes below.
@@ -246,20 +246,39 @@ fn write() {
     });
 }
 
-/// The check answers "unmet", here 9, only where nothing is refused.
+/// The check answers "unmet", here 9, only where nothing is refused, and names a data symbol, here 10 and 11, only where
+/// every equation is met: node 0's before node 1's, though its place is behind.
 #[test]
 fn check() {
-    let unmet: &[Cause] = &[("first equation unmet", 9, |i| put(&mut i.symbols, 0, 1))];
+    let faults: &[Cause] = &[
+        ("equations of the last place unmet", 9, |i| put_last(&mut i.symbols, 1)),
+        ("256 at the last place but one of node 0", 10, |i| put_256(i, 0, N - 2)),
+        ("256 at the first place of node 1", 11, |i| put_256(i, 1, 0)),
+    ];
     let input = accepted(vec![0; 6 * N], 0);
-    let causes = [SHAPE, SYMBOLS_LENGTH, SYMBOLS, unmet].concat();
+    let causes = [SHAPE, SYMBOLS_LENGTH, SYMBOLS, faults].concat();
     try_causes(input, &causes, |i| match i.shape.check(&i.symbols) {
         Ok(Checked::Sound) => 0,
         Ok(Checked::Unmet { layer, a, t }) => {
-            assert_eq!((layer, a, t), (0, 0, 0));
+            assert_eq!((layer, a, t), (2, 63, 0));
             9
+        }
+        Ok(Checked::HighData { node, place }) => {
+            assert_eq!(place, [N - 2, 0][node]);
+            10 + node
         }
         Err(refusal) => refusal.number(),
     });
+}
+
+/// Puts 256 at a place of a data node, and on the check nodes what the equations then ask for.
+fn put_256(i: &mut Input, node: usize, place: usize) {
+    let mut data = vec![0; CAPACITY];
+    data[node * N + place] = 256;
+    let nodes = codeword_of(naive::Shape { n: 6, k: 2, layers: 3 }, &data);
+    for index in (place..nodes.len()).step_by(N).filter(|&index| nodes[index] != 0) {
+        put(&mut i.symbols, index, nodes[index]);
+    }
 }
 
 #[test]

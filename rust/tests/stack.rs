@@ -68,6 +68,12 @@ fn written_and_checked() {
         let last = archive.nodes.last_mut().unwrap();
         *last = (*last + 1) % 257;
         assert_eq!(archive.check(), Checked::Unmet { layer: 14, a: 16383, t: 0 });
+        let mut data: Vec<u16> = archive.transcript.iter().map(|&byte| byte.into()).collect();
+        *data.last_mut().unwrap() = 256;
+        let list: Vec<usize> = (0..shape.data).collect();
+        archive.nodes = shape.restore_nodes(&list, &data).unwrap();
+        let place = shape.node_symbols().unwrap() - 1;
+        assert_eq!(archive.check(), Checked::HighData { node: shape.data - 1, place });
     }
 }
 

@@ -228,6 +228,18 @@ fn the_unmet_equation_is_taken_apart() {
 }
 
 #[test]
+fn the_high_data_symbol_is_taken_apart() {
+    let shape = Shape::new(5, 2, 3).unwrap();
+    for (node, place) in [(0, 0), (0, 31), (0, 95), (1, 0), (1, 95)] {
+        let mut data = vec![255; 2 * 96];
+        data[node * 96 + place] = 256;
+        let nodes = shape.restore_nodes(&[0, 1], &data).unwrap();
+        assert_eq!(shape.check(&nodes), Ok(Checked::HighData { node, place }));
+    }
+    assert_eq!(shape.check(&shape.restore_nodes(&[0, 1], &[255; 2 * 96]).unwrap()), Ok(Checked::Sound));
+}
+
+#[test]
 fn a_card_is_unpacked_as_it_was_packed() {
     assert_eq!(SHAPE.pack_to_vec(1, 2, &NODE_1), Ok(CARD.to_vec()));
     let header = Header { shape: SHAPE, node: 1, length: 2 };

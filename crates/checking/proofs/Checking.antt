@@ -1,34 +1,28 @@
--- The search of the check: what it has passed, what it answers, and what the answer tells.
-use mathlib.Core.Path.{_≡_, refl, sym, ap, ap₂, _∙_}
+-- The equations: what the search has passed, what it answers, and what the answer tells.
+use mathlib.Core.Path.{_≡_, sym, ap, ap₂, _∙_}
 use mathlib.Core.Logic.{_≢_, _↔_, _⊎_, inl, inr}
-use mathlib.Core.Bool.{Bool, true, false, cond}
-use mathlib.Core.List.{List, []}
+use mathlib.Core.Bool.{true, false}
+use mathlib.Core.List.{List}
 use Prim.Native.Nat.{ℕ, _+_, _-_, _*_, _/_, _%_, _^_, _<_, _≤_}
-use native.Mathlib.Decide.{ℕ-discrete}
 use native.Mathlib.Omega.{arith}
 use borrow.Author.Count.{below-more}
 use borrow.Author.Tests.{eq-eqb, ne-eqb}
-use lib.Dec.{eqb}
 use lib.Arith.{digits-lt, digits-div, digits-mod}
 use Rattle.lists.proofs.Tests.{below-or-not, cond-equal, cond-unequal}
 use Rattle.lists.proofs.Firsts.{first-none, first-found}
 use Rattle.lists.proofs.Places.{Place, place-of}
 use Rattle.shape.specs.declared.Shape.{Shape}
 use Rattle.shape.specs.Shape.{size}
-use Rattle.shape.specs.declared.Refusal.{Refusal}
-use Rattle.shape.specs.Refusals.{numberOf}
-use Rattle.shape.proofs.Answers.{number-positive, afterwards-done, afterwards-refused}
 use Rattle.checking.specs.declared.Checked.{Checked}
-use Rattle.checking.specs.declared.Checked.the-variants.{Sound, Unmet, Refused}
+use Rattle.checking.specs.declared.Checked.the-variants.{Sound, Unmet}
 use Rattle.code.specs.Code.{narrow}
 use Rattle.code.specs.Archive.{equation, unmet, firstUnmet}
-use Rattle.code.specs.Refusals.{checkRefusal}
-use Rattle.checking.specs.Promises.{checkedNumber, checkedValues, checkedBy, Checks, equationNumber, FirstUnmet}
+use Rattle.checking.specs.Promises.{checkedBy, equationNumber, FirstUnmet}
 use Rattle.checking.specs.Steps.{MetTo}
-use Rattle.code.proofs.Accepted.{sound-iff}
 use Rattle.code.proofs.Unmet.{unmet-upto, unmet-first}
+use Rattle.checking.proofs.Answers.{before-end, sound-at-end}
 
-never : (layer a t : ℕ) → Unmet layer a t ≡ Sound → ⊥
+never : (layer a t : ℕ) → Unmet layer a t ≢ Sound
 never layer a t e = let z : _≡_ {A = ℕ} 0 1 = cc in omega arith
 
 module _ (s : Shape) (nodes : List ℕ) where
@@ -95,74 +89,31 @@ module _ (s : Shape) (nodes : List ℕ) where
   -- it is sound exactly if no equation is unmet
   pub sound-none-iff : (checkedBy s (firstUnmet narrow s nodes) ≡ Sound) ↔ (firstUnmet narrow s nodes ≡ size s * (s .n - s .k))
   unfolding checkedBy
-  sound-none-iff = (λ e. to e (ℕ-discrete _ _), λ e. cond-equal _ _ _ _ e)
-    where
-      to : checkedBy s (firstUnmet narrow s nodes) ≡ Sound → Dec (firstUnmet narrow s nodes ≡ size s * r) → firstUnmet narrow s nodes ≡ size s * r
-      to e (yes d) = d
-      to e (no d) = absurd (never _ _ _ (sym (cond-unequal _ _ (firstUnmet narrow s nodes) (size s * r) d) ∙ e))
+  sound-none-iff = sound-at-end _ _ _ (never _ _ _)
 
   -- an equation that is named is the first that is not met
   pub unmet-tells : (layer a t : ℕ) → checkedBy s (firstUnmet narrow s nodes) ≡ Unmet layer a t → FirstUnmet s nodes layer a t
   unfolding checkedBy equationNumber size
-  unmet-tells layer a t e = go (ℕ-discrete (firstUnmet narrow s nodes) (size s * r))
+  unmet-tells layer a t e =
+      let w = before-end _ _ _ (Unmet layer a t) (never layer a t) e in
+      named (w .0) (w .1) (place-of (size s) r (firstUnmet narrow s nodes) (omega (arith, w .0, unmet-upto narrow s nodes)))
     where
-      go : Dec (firstUnmet narrow s nodes ≡ size s * r) → FirstUnmet s nodes layer a t
-      go (yes d) = absurd (never layer a t (sym e ∙ cond-equal _ _ (firstUnmet narrow s nodes) (size s * r) d))
-      go (no d) =
-          named (sym (cond-unequal _ _ (firstUnmet narrow s nodes) (size s * r) d) ∙ e)
-          (place-of (size s) r (firstUnmet narrow s nodes) (omega (arith, unmet-upto narrow s nodes)))
-        where
-          named : Unmet (firstUnmet narrow s nodes / r / 2 ^ s .n) (firstUnmet narrow s nodes / r % 2 ^ s .n) (firstUnmet narrow s nodes % r) ≡ Unmet layer a t
-              → Place (s .layers * 2 ^ s .n) r (firstUnmet narrow s nodes) → FirstUnmet s nodes layer a t
-          named same p =
-              let q = place-of (s .layers) (2 ^ s .n) (firstUnmet narrow s nodes / r) (p .row) in
-              let l : firstUnmet narrow s nodes / r / 2 ^ s .n ≡ layer = cc in
-              let b : firstUnmet narrow s nodes / r % 2 ^ s .n ≡ a = cc in
-              let u : firstUnmet narrow s nodes % r ≡ t = cc in
-              let place : firstUnmet narrow s nodes / r ≡ layer * 2 ^ s .n + a = sym (q .whole) ∙ ap₂ (λ x y. x * 2 ^ s .n + y) l b in
-              let whole : firstUnmet narrow s nodes ≡ (layer * 2 ^ s .n + a) * r + t = sym (p .whole) ∙ ap₂ (λ x y. x * r + y) place u in
-              let w = unmet-first narrow s nodes d in
-              record {
-                layer-below = rw l at (q .row);
-                a-below = rw b at (q .place);
-                t-below = rw u at (p .place);
-                here = λ z. w .0 (ap₂ (equation narrow s nodes) place u ∙ z);
-                before = λ x y v hb hv less.
-                    sym (ap₂ (equation narrow s nodes) (digits-div (x * 2 ^ s .n + y) hv) (digits-mod (x * 2 ^ s .n + y) hv))
-                    ∙ w .1 ((x * 2 ^ s .n + y) * r + v) (omega arith);
-              }
-
-  -- ---- the promise
-
-  looked : (e : ℕ) → checkedNumber (checkedBy s e) ≡ 0
-  unfolding checkedBy
-  looked e = go (eqb e (size s * r))
-    where
-      go : (t : Bool) → checkedNumber (cond t Sound (Unmet (e / r / 2 ^ s .n) (e / r % 2 ^ s .n) (e % r))) ≡ 0
-      go true = refl
-      go false = refl
-
-  pub checks-looked : (answer : Checked) → checkRefusal narrow s nodes ≡ 0 → answer ≡ checkedBy s (firstUnmet narrow s nodes) → Checks s nodes answer
-  checks-looked answer accepted e =
-      let iff = sound-iff s nodes accepted in record {
-        number = ap checkedNumber e ∙ looked (firstUnmet narrow s nodes) ∙ sym accepted;
-        returned = ap checkedValues e ∙ sym (afterwards-done [] _ (checkRefusal narrow s nodes) accepted);
-        found = λ _. e;
-        sound = λ _. (λ z. iff .0 (sound-none-iff .0 (sym e ∙ z)), λ w. e ∙ sound-none-iff .1 (iff .1 w));
-        unmet = λ layer a t z. unmet-tells layer a t (sym e ∙ z);
-      }
-
-  pub checks-refused : (cause : Refusal) → numberOf cause ≡ checkRefusal narrow s nodes → Checks s nodes (Refused cause)
-  checks-refused cause e = record {
-    number = e;
-    returned = sym (afterwards-refused [] _ cause (checkRefusal narrow s nodes) e);
-    found = λ z. absurd (turned z);
-    sound = λ z. absurd (turned z);
-    unmet = λ layer a t z. absurd (apart layer a t z);
-  }
-    where
-      turned : checkRefusal narrow s nodes ≡ 0 → ⊥
-      turned z = omega (arith, number-positive cause)
-
-      apart : (layer a t : ℕ) → Refused cause ≡ Unmet layer a t → ⊥
-      apart layer a t z = let w : _≡_ {A = ℕ} 0 1 = cc in omega arith
+      named : firstUnmet narrow s nodes ≢ size s * r → Unmet (firstUnmet narrow s nodes / r / 2 ^ s .n) (firstUnmet narrow s nodes / r % 2 ^ s .n) (firstUnmet narrow s nodes % r) ≡ Unmet layer a t
+          → Place (s .layers * 2 ^ s .n) r (firstUnmet narrow s nodes) → FirstUnmet s nodes layer a t
+      named d same p =
+          let q = place-of (s .layers) (2 ^ s .n) (firstUnmet narrow s nodes / r) (p .row) in
+          let l : firstUnmet narrow s nodes / r / 2 ^ s .n ≡ layer = cc in
+          let b : firstUnmet narrow s nodes / r % 2 ^ s .n ≡ a = cc in
+          let u : firstUnmet narrow s nodes % r ≡ t = cc in
+          let place : firstUnmet narrow s nodes / r ≡ layer * 2 ^ s .n + a = sym (q .whole) ∙ ap₂ (λ x y. x * 2 ^ s .n + y) l b in
+          let whole : firstUnmet narrow s nodes ≡ (layer * 2 ^ s .n + a) * r + t = sym (p .whole) ∙ ap₂ (λ x y. x * r + y) place u in
+          let w = unmet-first narrow s nodes d in
+          record {
+            layer-below = rw l at (q .row);
+            a-below = rw b at (q .place);
+            t-below = rw u at (p .place);
+            here = λ z. w .0 (ap₂ (equation narrow s nodes) place u ∙ z);
+            before = λ x y v hb hv less.
+                sym (ap₂ (equation narrow s nodes) (digits-div (x * 2 ^ s .n + y) hv) (digits-mod (x * 2 ^ s .n + y) hv))
+                ∙ w .1 ((x * 2 ^ s .n + y) * r + v) (omega arith);
+          }

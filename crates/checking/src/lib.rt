@@ -1,4 +1,4 @@
-// The check of an archive (demand 2).
+// The check of an archive (demand 2; document 02 §5).
 use code::gathered;
 use code::node_numbers;
 use code::points_at;
@@ -16,17 +16,23 @@ use shape::two_to;
 use tables::marks;
 ghost use mathlib.Core.Path.{_≡_};
 ghost use mathlib.Core.Bool.{false};
+ghost use Rattle.shape.specs.Shape.{byteValues};
 ghost use Rattle.shape.specs.Refusals.{shapeBad, answerNumber};
 ghost use Rattle.code.specs.Code.{narrow};
-ghost use Rattle.code.specs.Archive.{firstUnmet};
+ghost use Rattle.code.specs.Archive.{firstUnmet, firstHigh};
 ghost use Rattle.code.specs.Refusals.{checkRefusal};
-ghost use Rattle.checking.specs.Promises.{checkedBy, Checks};
+ghost use Rattle.checking.specs.Promises.{checkedBy, dataBy, checkAnswer, Checks};
 ghost use Rattle.checking.specs.Steps.{MetTo};
 
-// What the check answers: "sound, or the first unmet equation by layer, then a, then t".
+// The values of a byte: "nodes 0 to k−1 hold nothing above 255" (document 02 §5).
+const BYTE_VALUES: u32 = 256;
+
+// What the check answers: sound, or "the first unmet equation by layer, then a, then t", or, where all equations are met, "the first such
+// symbol by node then place", one of nodes 0 to k-1 that is above 255 (document 02 §5).
 pub enum Checked {
     Sound,
     Unmet { layer: usize, a: usize, t: usize },
+    HighData { node: usize, place: usize },
     Refused(Refusal),
 }
 
@@ -113,12 +119,43 @@ fn search(s: Shape, nodes: &[u16]) -> Checked
     first_unmet(s, nodes, 0)
 }
 
+// The first data symbol above 255. All are looked at together before they are one by one: an archive that was written has none.
+fn first_high(s: Shape, nodes: &[u16]) -> Checked
+    requires { ⌜ checkRefusal narrow s (now nodes) ≡ 0 ⌝ }
+    ensures { λ found. ⌜ found ≡ dataBy s (firstHigh byteValues s (now (nodes .entry))) ⌝ }
+{
+    let k = s.k;
+    let each = size(s);
+    let count = k * each;
+    if !symbol_bad(BYTE_VALUES, &nodes[..count]) {
+        return Checked::Sound;
+    }
+    for e in 0..count {
+        if BYTE_VALUES <= nodes[e] as u32 {
+            return Checked::HighData { node: e / each, place: e % each };
+        }
+    }
+    Checked::Sound
+}
+
+// "The equations are judged first", all of them, and the data symbols where all are met.
+fn look(s: Shape, nodes: &[u16]) -> Checked
+    requires { ⌜ checkRefusal narrow s (now nodes) ≡ 0 ⌝ }
+    ensures { λ found. ⌜ found ≡ checkAnswer s (now (nodes .entry)) ⌝ }
+{
+    let found = search(s, nodes);
+    if let Checked::Sound = found {
+        return first_high(s, nodes);
+    }
+    found
+}
+
 // The check of all n nodes.
 pub fn check(s: Shape, nodes: &[u16]) -> Checked
     ensures { λ answer. ⌜ Checks s (now (nodes .entry)) answer ⌝ }
 {
     match judge_check(s, nodes) {
         Answer::Refused(cause) => Checked::Refused(cause),
-        Answer::Done => search(s, nodes),
+        Answer::Done => look(s, nodes),
     }
 }

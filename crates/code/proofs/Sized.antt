@@ -1,4 +1,4 @@
--- Symbols that are a written transcript's are below the modulus, so that cause 5 has no part in demand 2.
+-- Symbols that are a codeword's are below the modulus, so that cause 5 has no part in demand 2.
 use mathlib.Core.Path.{_≡_, sym, ap, _∙_}
 use mathlib.Core.Bool.{true, false, not, _||_}
 use mathlib.Core.List.{List}
@@ -15,11 +15,11 @@ use Rattle.lists.proofs.Places.{Place, place-of}
 use Rattle.shape.specs.declared.Shape.{Shape}
 use Rattle.shape.specs.Shape.{size, byteValues}
 use Rattle.shape.specs.Refusals.{refuse, shapeBad, nodesBad, wrongLength, symbolBad}
-use Rattle.shape.proofs.Accepted.{passed, shape-accepted, nodes-accepted}
+use Rattle.shape.proofs.Accepted.{passed, nodes-accepted}
 use Rattle.code.specs.Code.{narrow}
-use Rattle.code.specs.Archive.{symbol, written, Codeword, Transcript}
+use Rattle.code.specs.Archive.{symbol, written, Codeword, Holds, Transcript}
 use Rattle.code.specs.Refusals.{openInputRefusal, openSizeRefusal}
-use Rattle.code.proofs.Accepted.{narrow-accepted}
+use Rattle.code.proofs.Accepted.{bytes-writable}
 use Rattle.code.proofs.Written.{Writable, written-codeword}
 
 module _ (s : Shape) (list symbols : List ℕ) (len room : ℕ) (sized : openSizeRefusal s list symbols len room ≡ 0) where
@@ -38,28 +38,24 @@ module _ (s : Shape) (list symbols : List ℕ) (len room : ℕ) (sized : openSiz
       let first = neither (wrongLength (length symbols) (s .k * size s)) (ltb (s .k * size s) len) (last .0) in
       (eqb-true _ _ (not-false _ (first .0)), ltb-false _ _ (first .1))
 
-  module _ (t : Transcript narrow s list symbols len) where
-    able : Writable narrow s (t .bytes)
-    able = record {
-      code = narrow-accepted s (judged .0);
-      fits = omega (arith, shape-accepted s (judged .0) .k-high);
-      small = λ b h. omega (arith, t .long, t .low b (omega (arith, t .long)));
-      room = omega (arith, t .long, lengths .1);
-    }
-
-    word : Codeword narrow s (written narrow s (t .bytes))
-    word = written-codeword narrow s (t .bytes) able
-
+  module _ (w : List ℕ) (word : Codeword narrow s w) (holds : Holds s list symbols w) where
     each : (e : ℕ) → e < length symbols → getD symbols e 0 < narrow .modulus
     unfolding symbol
     each e h =
         let p = place-of (s .k) (size s) e (omega (arith, lengths .0)) in
-        let w = nodes-accepted (s .n) (s .k) list (judged .1) in
-        let same = t .holds .held (e / size s) (e % size s) (p .row) (p .place) in
-        let low = rising-below (s .n) list (w .1) (e / size s) (omega (arith, w .0, p .row)) in
+        let up = nodes-accepted (s .n) (s .k) list (judged .1) in
+        let same = holds .held (e / size s) (e % size s) (p .row) (p .place) in
+        let low = rising-below (s .n) list (up .1) (e / size s) (omega (arith, up .0, p .row)) in
         rw (← (same ∙ ap (λ k. getD symbols k 0) (p .whole))) (word .small _ (omega (arith, word .long, digits-lt low (p .place))))
 
     -- the input passes
-    pub sized-input : openInputRefusal narrow s list symbols len room 0 ≡ 0
+    pub held-input : openInputRefusal narrow s list symbols len room 0 ≡ 0
     unfolding openInputRefusal symbolBad
-    sized-input = simp (judged .0, judged .1, judged .2, at-all-below (narrow .modulus) symbols each)
+    held-input = simp (judged .0, judged .1, judged .2, at-all-below (narrow .modulus) symbols each)
+
+  -- and so it does where they are a written transcript's
+  pub sized-input : Transcript narrow s list symbols len → openInputRefusal narrow s list symbols len room 0 ≡ 0
+  sized-input t = held-input (written narrow s (t .bytes)) (written-codeword narrow s (t .bytes) able) (t .holds)
+    where
+      able : Writable narrow s (t .bytes)
+      able = bytes-writable s (t .bytes) (judged .0) (λ b h. t .low b (omega (arith, t .long))) (omega (arith, t .long, lengths .1))

@@ -7,6 +7,7 @@ use plan::Planned;
 use returned::answer_number;
 use returned::equation_number;
 use returned::store_header;
+use returned::symbol_number;
 use returned::unpack_room;
 use shape::Shape;
 use shape::number_of;
@@ -37,7 +38,8 @@ pub extern "C" fn hmsr_write(
     answer_number(writing::write(s, transcript, nodes))
 }
 
-// The check of all n nodes: 0 sound, a refusal's number, or the number of the first unmet equation behind FIRST_FOUND.
+// The check of all n nodes: 0 sound, a refusal's number, or, behind FIRST_FOUND, the number of the first unmet equation, or of the first
+// data symbol above 255 where all are met (document 02 §5).
 #[no_mangle]
 pub extern "C" fn hmsr_check(n: usize, k: usize, layers: usize, nodes: &[u16]) -> usize
     ensures { λ r. ⌜ Returned (checkReturned (shapeOf n k layers)) (Checks (shapeOf n k layers) (now (nodes .entry))) r ⌝ }
@@ -47,6 +49,7 @@ pub extern "C" fn hmsr_check(n: usize, k: usize, layers: usize, nodes: &[u16]) -
         Checked::Sound => 0,
         Checked::Refused(cause) => number_of(cause),
         Checked::Unmet { layer, a, t } => FIRST_FOUND + equation_number(s, layer, a, t),
+        Checked::HighData { node, place } => FIRST_FOUND + symbol_number(s, node, place),
     }
 }
 

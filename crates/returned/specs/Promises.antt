@@ -2,15 +2,15 @@
 use mathlib.Core.Path.{_≡_}
 use mathlib.Core.Bool.{cond}
 use mathlib.Core.List.{List}
-use Prim.Native.Nat.{ℕ, _+_}
+use Prim.Native.Nat.{ℕ, _+_, _-_, _*_}
 use lib.Dec.{eqb}
 use lib.ListN.{length}
-use Rattle.shape.specs.Shape.{symbolValues}
+use Rattle.shape.specs.Shape.{symbolValues, size}
 use Rattle.shape.specs.declared.Shape.{Shape}
 use Rattle.shape.specs.Refusals.{numberOf}
 use Rattle.checking.specs.declared.Checked.{Checked}
 use Rattle.checking.specs.declared.Checked.the-variants as checked
-use Rattle.checking.specs.Promises.{equationNumber}
+use Rattle.checking.specs.Promises.{equationNumber, symbolNumber}
 use Rattle.card.specs.declared.Header.{Header}
 use Rattle.card.specs.declared.Packed.{Packed}
 use Rattle.card.specs.declared.Packed.the-variants as packed
@@ -39,11 +39,17 @@ headerFrom n k layers node len = record { shape = shapeOf n k layers; node = nod
 abbrev pub firstFound : ℕ
 firstFound = 256
 
--- 0 sound; a refusal's number; or 256 + e where equation e is the first unmet
+-- the number of a node's symbol at a place behind those of all equations, of which there are r × N
+unfoldable pub behindEquations : Shape → ℕ → ℕ → ℕ
+behindEquations s node place = (s .n - s .k) * size s + symbolNumber s node place
+
+-- 0 sound; a refusal's number; 256 + e where equation e is the first unmet; or, where all equations are met and that data symbol is the
+-- first above 255, 256 + r × N + (node × N + place) (document 02 §5)
 abbrev pub checkReturned : Shape → Checked → ℕ
 checkReturned s checked.Sound = 0
 checkReturned s (checked.Refused cause) = numberOf cause
 checkReturned s (checked.Unmet layer a t) = firstFound + equationNumber s layer a t
+checkReturned s (checked.HighData node place) = firstFound + behindEquations s node place
 
 -- a refusal's number, or 256 + the card's length
 abbrev pub packReturned : Packed → ℕ

@@ -3,15 +3,17 @@ use card::Header;
 use shape::Answer;
 use shape::Shape;
 use shape::number_of;
+use shape::size;
 use shape::two_to;
 ghost use mathlib.Core.Path.{_≡_};
 ghost use mathlib.Core.Bool.{false};
 ghost use Prim.Native.Nat.{_-_, _^_, _<_};
 ghost use lib.ListN.{length};
+ghost use Rattle.shape.specs.Shape.{size};
 ghost use Rattle.shape.specs.Refusals.{answerNumber, shapeBad};
 ghost use Rattle.checking.specs.Promises.{equationNumber};
 ghost use Rattle.card.specs.Cards.{headerCount, headerNumbers};
-ghost use Rattle.returned.specs.Promises.{unpackRoom};
+ghost use Rattle.returned.specs.Promises.{behindEquations, unpackRoom};
 
 // The numbers of a card's header: n, k, layers, node, length.
 const HEADER_COUNT: usize = 5;
@@ -34,6 +36,17 @@ pub fn equation_number(s: Shape, layer: usize, a: usize, t: usize) -> usize
     let n = s.n;
     let k = s.k;
     (layer * two_to(n) + a) * (n - k) + t
+}
+
+// The number of a node's symbol at a place, by node, then place, behind the numbers of all equations.
+pub fn symbol_number(s: Shape, node: usize, place: usize) -> usize
+    requires { ⌜ (shapeBad s ≡ false) × (node < s .k) × (place < size s) ⌝ }
+    ensures { λ r. ⌜ (r ≡ behindEquations s node place) × (r < 2 ^ 32) ⌝ }
+{
+    let n = s.n;
+    let k = s.k;
+    let each = size(s);
+    (n - k) * each + (node * each + place)
 }
 
 // The symbols that unpacking has room for: none where the header's buffer is of another length. Every card has symbols, so 4 then comes in its place among the causes.

@@ -1,4 +1,4 @@
-//! `hmsr check`: whether every card is there and all agree.
+//! `hmsr check`: whether every card is there, all agree, and they hold a transcript.
 use std::path::Path;
 
 use hmsr::{Checked, Shape};
@@ -31,7 +31,7 @@ fn judged(cards: &Cards) -> Result<String, Failure> {
         return Err(to_be_done(cards, &agreement));
     }
     let notes = cards.notes();
-    Ok(format!("sound: all cards are there and meet the parity equations ({})\n{notes}", cards.described()))
+    Ok(format!("sound: all cards are there, agree and hold a transcript ({})\n{notes}", cards.described()))
 }
 
 /// The absent nodes, and what is to be done about them.
@@ -68,6 +68,7 @@ fn met(cards: &Cards) -> Result<(), Failure> {
     match cards.shape.check(&cards.symbols_of(&cards.present())) {
         Ok(Checked::Sound) => Ok(()),
         Ok(Checked::Unmet { layer, a, t }) => Err(unmet(cards, layer, a, t)),
+        Ok(Checked::HighData { node, place }) => Err(no_transcript(cards, node, place)),
         Err(refusal) => {
             let what = "the cards cannot be checked";
             Err(Failure::refused(Failure::Lost, what, refusal, "this is a fault of the program"))
@@ -83,6 +84,15 @@ fn unmet(cards: &Cards, layer: usize, a: usize, t: usize) -> Failure {
         Err(other) => Failure::Lost(format!("{unmet}; {}", other.message())),
         Ok(()) => Failure::Lost(unmet),
     }
+}
+
+/// The first data symbol above 255, and what it means.
+fn no_transcript(cards: &Cards, node: usize, place: usize) -> Failure {
+    Failure::Lost(format!(
+        "not sound: the drives agree, but they hold no transcript: node {node} ({}) has a symbol above 255 at place {place}, \
+         and a transcript has none; find other cards of this archive",
+        cards.files_of(&[node])
+    ))
 }
 
 /// The same for programs: the verdict, the archive where that can be told, and each node's card.

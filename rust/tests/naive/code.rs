@@ -22,16 +22,29 @@ pub fn write(shape: Shape, transcript: &[u8], nodes_length: usize) -> Result<Vec
     Ok(restored(shape, &list, &data))
 }
 
-/// None if sound, otherwise the layer, a and t of the first unmet equation.
-pub fn check(shape: Shape, nodes: &[u16]) -> Result<Option<(usize, usize, usize)>, Number> {
+/// Why nodes are not sound.
+#[derive(Clone, Copy, Debug, PartialEq, Eq)]
+pub enum Fault {
+    Equation { layer: usize, a: usize, t: usize },
+    Symbol { node: usize, place: usize },
+}
+
+/// None if sound, otherwise the first unmet equation, or, where all are met, the first symbol above 255 of nodes 0 to k−1,
+/// by node then place (document 02 §5).
+pub fn check(shape: Shape, nodes: &[u16]) -> Result<Option<Fault>, Number> {
     judge_shape(shape)?;
     judge_lengths(&[(nodes.len(), shape.n * shape.symbols())])?;
     judge_symbols(nodes)?;
     for layer in 0..shape.layers {
         for a in 0..shape.width() {
             if let Some(t) = first_unmet(shape, nodes, layer, a) {
-                return Ok(Some((layer, a, t)));
+                return Ok(Some(Fault::Equation { layer, a, t }));
             }
+        }
+    }
+    for (node, symbols) in nodes.chunks(shape.symbols()).enumerate().take(shape.k) {
+        if let Some(place) = symbols.iter().position(|&symbol| symbol > 255) {
+            return Ok(Some(Fault::Symbol { node, place }));
         }
     }
     Ok(None)

@@ -4,7 +4,7 @@
 
 use super::naive::lent::Lent;
 use super::naive::random::Random;
-use super::naive::{self, Header, Number, Shape};
+use super::naive::{self, Fault, Header, Number, Shape};
 use hmsr::{Checked, Refusal};
 
 fn library(shape: Shape) -> hmsr::Shape {
@@ -34,16 +34,18 @@ pub fn write(random: &mut Random, shape: Shape, transcript: &[u8], nodes_length:
     number
 }
 
-/// 9 where an equation is unmet.
+/// 9 where an equation is unmet, 10 where a data symbol is above 255.
 pub fn check(shape: Shape, nodes: &[u16]) -> Number {
     let answer = library(shape).check(nodes).map(|checked| match checked {
         Checked::Sound => None,
-        Checked::Unmet { layer, a, t } => Some((layer, a, t)),
+        Checked::Unmet { layer, a, t } => Some(Fault::Equation { layer, a, t }),
+        Checked::HighData { node, place } => Some(Fault::Symbol { node, place }),
     });
     assert_eq!(answer.map_err(Refusal::number), naive::check(shape, nodes));
     match answer {
         Ok(None) => 0,
-        Ok(Some(_)) => 9,
+        Ok(Some(Fault::Equation { .. })) => 9,
+        Ok(Some(Fault::Symbol { .. })) => 10,
         Err(refusal) => refusal.number(),
     }
 }

@@ -1,4 +1,4 @@
-//! The archive of document 01 written naively, to compare the library with: general matrices with
+//! The archive of documents 01 and 02 written naively, to compare the library with: general matrices with
 //! pivoting, a solve for each place, vectors everywhere. It shares no code with the library. A call
 //! takes what it reads as slices and the lengths of the buffers it would fill; it returns what would
 //! stand in them, or the refusal number.
@@ -14,7 +14,7 @@ pub mod random;
 pub mod repair;
 
 pub use card::{pack, unpack, Header};
-pub use code::{check, open, restore, write};
+pub use code::{check, open, restore, write, Fault};
 pub use judge::{Number, Shape};
 pub use plan::plan;
 pub use repair::{first_step, helper_message, repair, second_step};

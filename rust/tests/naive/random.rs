@@ -100,9 +100,18 @@ impl Random {
 
     /// A codeword of any symbols, 256 too: what random nodes 0 to k−1 restore to.
     pub fn codeword(&mut self, shape: Shape) -> Vec<u16> {
-        let list: Vec<usize> = (0..shape.k).collect();
         let data = self.symbols(shape.capacity());
-        restore(shape, &list, &data, shape.n * shape.symbols()).unwrap()
+        codeword_of(shape, &data)
+    }
+
+    /// A codeword of bytes and so many symbols 256, or fewer, on nodes 0 to k−1.
+    pub fn codeword_of_bytes(&mut self, shape: Shape, no_bytes: usize) -> Vec<u16> {
+        let mut data: Vec<u16> = self.bytes(shape.capacity()).into_iter().map(u16::from).collect();
+        for _ in 0..no_bytes {
+            let index = self.below(data.len());
+            data[index] = 256;
+        }
+        codeword_of(shape, &data)
     }
 
     /// A number that is out of range or far off wherever it stands for the given one.
@@ -164,4 +173,10 @@ impl Random {
             symbols[self.choose(&[0, last, index, index])] = self.choose(&[257, 258, 511, 512, 513, 32768, 65535]);
         }
     }
+}
+
+/// What nodes 0 to k−1 restore to.
+pub fn codeword_of(shape: Shape, data: &[u16]) -> Vec<u16> {
+    let list: Vec<usize> = (0..shape.k).collect();
+    restore(shape, &list, data, shape.n * shape.symbols()).unwrap()
 }

@@ -68,11 +68,12 @@ impl Archive<'_> {
         mixed_all(answer as u64, self.nodes)
     }
 
-    /// A check's answer in a digest: 0, the number of a cause, or 9 and the equation.
+    /// A check's answer in a digest: 0, the number of a cause, 9 and the equation, or 10 and the data symbol.
     fn checked(&self, digest: u64, nodes: &[u16]) -> u64 {
         match self.shape.check(nodes) {
             Ok(Checked::Sound) => mixed(digest, 0),
             Ok(Checked::Unmet { layer, a, t }) => mixed_all(digest, &[9, layer, a, t]),
+            Ok(Checked::HighData { node, place }) => mixed_all(digest, &[10, node, place]),
             Err(refusal) => mixed(digest, refusal.number()),
         }
     }
