@@ -114,8 +114,11 @@ size_t hmsr_write(size_t n, size_t k, size_t layers,
                   const uint8_t *transcript, size_t transcript_length,
                   uint16_t *nodes, size_t nodes_length);
 
-/* Checks the parity equations of n * N symbols. Returns 0 where all are met; a refusal number (1, 4, 5), below 256; or 256 + e where
- * equation e is the first that is not met, e = (layer * 2^n + a) * (n-k) + t. */
+/* Checks n * N symbols: first the parity equations, all of them, then whether nodes 0 to k-1 hold anything above 255. Returns 0 where the
+ * nodes are sound, that is, what hmsr_write makes of some k * N bytes; a refusal number (1, 4, 5), below 256; 256 + e where equation e
+ * is the first that is not met, e = (layer * 2^n + a) * (n-k) + t, so that the nodes do not agree; or 256 + (n-k) * N + (node * N + place)
+ * where all equations are met and that symbol is the first above 255, by node, then place: the nodes agree, but they hold no
+ * transcript, and hmsr_open gives 7 whichever k of them it is given. */
 size_t hmsr_check(size_t n, size_t k, size_t layers,
                   const uint16_t *nodes, size_t nodes_length);
 

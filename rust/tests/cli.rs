@@ -396,6 +396,28 @@ fn a_wrong_length_in_all_cards_is_refused() {
     }
 }
 
+/// A codeword with two symbols 256 on its data nodes, and then a wrong card besides.
+#[test]
+fn drives_that_agree_and_hold_no_transcript_are_not_sound() {
+    let place = Place::new("no_transcript");
+    let shape = hmsr::Shape::new(6, 3, 1).unwrap();
+    let mut data = vec![65; 3 * 64];
+    data[64 + 5] = 256;
+    data[2 * 64] = 256;
+    let nodes = shape.restore_nodes(&[0, 1, 2], &data).unwrap();
+    fs::create_dir(place.path("drives")).unwrap();
+    for (node, symbols) in nodes.chunks(64).enumerate() {
+        fs::write(place.card("drives", node), shape.pack_to_vec(node, 192, symbols).unwrap()).unwrap();
+    }
+    let words = ["not sound: the drives agree, but they hold no transcript", "node 1 (drives/node-01.card)", "place 5,"];
+    place.refuses("check drives", LOST, &words);
+    for line in ["open drives opened", "repair drives"] {
+        place.refuses(line, LOST, &["refusal 7"]);
+    }
+    place.damage("drives", 4);
+    place.refuses("check drives", LOST, &["layer 0, a = 63, t = 0 is the first unmet", "refusal 7"]);
+}
+
 #[test]
 fn a_file_that_is_there_is_not_opened_into() {
     let place = Place::with_archive("out");

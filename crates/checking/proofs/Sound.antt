@@ -43,6 +43,16 @@ module _ (s : Shape) (nodes : List ℕ) where
   shape-good : (answer : Checked) → checkedNumber answer ≡ 0 → Checks s nodes answer → shapeBad s ≡ false
   shape-good answer e p = check-shape s nodes (sym (p .number) ∙ e)
 
+  -- nodes of which a data symbol is named are what writing no bytes gives
+  unwritten : (node place : ℕ) → Checks s nodes (HighData node place) → (bytes : List ℕ) → all (below byteValues) bytes ≡ true → length bytes ≤ s .k * size s
+      → nodes ≢ written narrow s bytes
+  unwritten node place p bytes small room same =
+      let first = p .high node place refl .1 in
+      let each = all-below-at byteValues bytes small in
+      let able = bytes-writable s bytes (shape-good (HighData node place) refl p) each room in
+      let low = subst (LowData byteValues s) (sym same) (written-low byteValues narrow s bytes able (omega arith) each) in
+      omega (arith, first .here, low .low node place (first .node-below) (first .place-below))
+
   module _ (list symbols : List ℕ) (held : Holds s list symbols nodes) where
     -- an office that is told that its drives are sound opens a transcript of k × N bytes from any k of them
     pub sound-opens : (before after : List ℕ) (answer : Answer) → Checks s nodes Sound
@@ -55,11 +65,7 @@ module _ (s : Shape) (nodes : List ℕ) where
     pub high-seven : (len : ℕ) (before after : List ℕ) (answer : Answer) (node place : ℕ) → Checks s nodes (HighData node place)
         → openSizeRefusal s list symbols len (length before) ≡ 0 → Opens s list symbols len before after answer → answerNumber answer ≡ 7
     high-seven len before after answer node place p sized o =
-        let named = p .high node place refl in
-        let input = held-input s list symbols len (length before) sized nodes (named .0) held in
-        let taken = open-accepted s list symbols len (length before) input in
-        o .number ∙ open-seven s list symbols len (length before) input nodes (named .0) held (λ bytes long small same.
-            let each = all-below-at byteValues bytes small in
-            let able = bytes-writable s bytes (taken .shape) each (omega (arith, long, taken .fits)) in
-            let low = subst (LowData byteValues s) (sym same) (written-low byteValues narrow s bytes able (omega arith) each) in
-            omega (arith, named .1 .here, low .low node place (named .1 .node-below) (named .1 .place-below)))
+        let word = p .high node place refl .0 in
+        let input = held-input s list symbols len (length before) sized nodes word held in
+        let room = open-accepted s list symbols len (length before) input .fits in
+        o .number ∙ open-seven s list symbols len (length before) input nodes word held (λ bytes long small. unwritten node place p bytes small (omega (arith, long, room)))

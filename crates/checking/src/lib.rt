@@ -6,6 +6,7 @@ use column::parity;
 use comparing::listed_met;
 use patterns::pays;
 use shape::Answer;
+use shape::BYTE_VALUES;
 use shape::MODULUS;
 use shape::Refusal;
 use shape::Shape;
@@ -23,9 +24,6 @@ ghost use Rattle.code.specs.Archive.{firstUnmet, firstHigh};
 ghost use Rattle.code.specs.Refusals.{checkRefusal};
 ghost use Rattle.checking.specs.Promises.{checkedBy, dataBy, checkAnswer, Checks};
 ghost use Rattle.checking.specs.Steps.{MetTo};
-
-// The values of a byte: "nodes 0 to k−1 hold nothing above 255" (document 02 §5).
-const BYTE_VALUES: u32 = 256;
 
 // What the check answers: sound, or "the first unmet equation by layer, then a, then t", or, where all equations are met, "the first such
 // symbol by node then place", one of nodes 0 to k-1 that is above 255 (document 02 §5).
@@ -132,7 +130,10 @@ fn first_high(s: Shape, nodes: &[u16]) -> Checked
     }
     for e in 0..count {
         if BYTE_VALUES <= nodes[e] as u32 {
-            return Checked::HighData { node: e / each, place: e % each };
+            return Checked::HighData {
+                node: e / each,
+                place: e % each,
+            };
         }
     }
     Checked::Sound

@@ -53,7 +53,10 @@ module _ (values : ℕ) (c : Code) (s : Shape) where
             rw (getD-take (s .k * size s) nodes b 0 h, ← (data-symbol s nodes b h)) (w .1 .low _ _ (p .row) (p .place))
 
     pub transcript-iff : (Codeword c s nodes × LowData values s nodes) ↔ OfTranscript values c s nodes
-    transcript-iff = (of-data, λ t.
-        let able = writable (t .bytes) (t .long) (t .low) in
-        subst (λ w. Codeword c s w × LowData values s w) (sym (t .whole))
-        (written-codeword c s (t .bytes) able, written-low (t .bytes) able some (λ b h. t .low b (omega (arith, t .long)))))
+    transcript-iff = (
+      of-data,
+      λ t.
+          let able = writable (t .bytes) (t .long) (t .low) in
+          subst (λ w. Codeword c s w × LowData values s w) (sym (t .whole))
+          (written-codeword c s (t .bytes) able, written-low (t .bytes) able some (λ b h. t .low b (omega (arith, t .long)))),
+    )

@@ -9,6 +9,7 @@ use picking::run_multipliers;
 use rows::RUN;
 use rows::store;
 use shape::Answer;
+use shape::BYTE_VALUES;
 use shape::MODULUS;
 use shape::Refusal;
 use shape::Shape;
@@ -79,7 +80,7 @@ fn row_fits(len: usize, at: usize, row: &[u16]) -> bool
 {
     let count = row.len();
     let within = before_end(len, at, count);
-    !(symbol_bad(256, &row[..within]) | symbol_bad(1, &row[within..count]))
+    !(symbol_bad(BYTE_VALUES, &row[..within]) | symbol_bad(1, &row[within..count]))
 }
 
 // A row of data symbols stored as bytes, from `at` on.

@@ -79,7 +79,11 @@ fn met(cards: &Cards) -> Result<(), Failure> {
 /// The first unmet equation, and which cards are to blame where that can be told.
 fn unmet(cards: &Cards, layer: usize, a: usize, t: usize) -> Failure {
     let unmet = format!("not sound: the equation of layer {layer}, a = {a}, t = {t} is the first unmet");
-    match Agreement::of(cards).and_then(|agreement| agreement.refuse_wrong(cards)) {
+    let blame = |agreement: Agreement| {
+        cards.transcript(&agreement.right[..cards.shape.data])?;
+        agreement.refuse_wrong(cards)
+    };
+    match Agreement::of(cards).and_then(blame) {
         Err(Failure::Repairable(blamed)) => Failure::Repairable(format!("{unmet}; {blamed}")),
         Err(other) => Failure::Lost(format!("{unmet}; {}", other.message())),
         Ok(()) => Failure::Lost(unmet),
@@ -89,8 +93,8 @@ fn unmet(cards: &Cards, layer: usize, a: usize, t: usize) -> Failure {
 /// The first data symbol above 255, and what it means.
 fn no_transcript(cards: &Cards, node: usize, place: usize) -> Failure {
     Failure::Lost(format!(
-        "not sound: the drives agree, but they hold no transcript: node {node} ({}) has a symbol above 255 at place {place}, \
-         and a transcript has none; find other cards of this archive",
+        "not sound: the drives agree, but they hold no transcript: node {node} ({}) has a symbol above 255 at place \
+         {place}, which no transcript gives; find other copies of these cards",
         cards.files_of(&[node])
     ))
 }

@@ -15,7 +15,7 @@ hmsr write FILE DIR --nodes N --data K [--layers L] [--quiet]
         "check",
         "\
 hmsr check DIR [--json] [--quiet]
-        whether every card is there and all agree
+        whether every card is there, all agree, and they hold a transcript
 ",
     ),
     (
