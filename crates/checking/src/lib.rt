@@ -22,7 +22,7 @@ ghost use Rattle.shape.specs.Refusals.{shapeBad, answerNumber};
 ghost use Rattle.code.specs.Code.{narrow};
 ghost use Rattle.code.specs.Archive.{firstUnmet, firstHigh};
 ghost use Rattle.code.specs.Refusals.{checkRefusal};
-ghost use Rattle.checking.specs.Promises.{checkedBy, dataBy, checkAnswer, Checks};
+ghost use Rattle.checking.specs.Promises.{checkedBy, dataBy, otherwise, checkAnswer, Checks};
 ghost use Rattle.checking.specs.Steps.{MetTo};
 
 // What the check answers: sound, or "the first unmet equation by layer, then a, then t", or, where all equations are met, "the first such
@@ -139,16 +139,24 @@ fn first_high(s: Shape, nodes: &[u16]) -> Checked
     Checked::Sound
 }
 
-// "The equations are judged first", all of them, and the data symbols where all are met.
+// An answer that is not sound, else the later one.
+fn otherwise(first: Checked, later: Checked) -> Checked
+    ensures { λ r. ⌜ r ≡ otherwise first later ⌝ }
+{
+    if let Checked::Sound = first {
+        return later;
+    }
+    first
+}
+
+// "The equations are judged first", all of them: the data symbols say something only where these are met.
 fn look(s: Shape, nodes: &[u16]) -> Checked
     requires { ⌜ checkRefusal narrow s (now nodes) ≡ 0 ⌝ }
     ensures { λ found. ⌜ found ≡ checkAnswer s (now (nodes .entry)) ⌝ }
 {
-    let found = search(s, nodes);
-    if let Checked::Sound = found {
-        return first_high(s, nodes);
-    }
-    found
+    let equations = search(s, nodes);
+    let symbols = first_high(s, nodes);
+    otherwise(equations, symbols)
 }
 
 // The check of all n nodes.
