@@ -13,7 +13,6 @@ use Rattle.lists.proofs.Firsts.{first-none, first-found}
 use Rattle.lists.proofs.Places.{Place, place-of}
 use Rattle.shape.specs.declared.Shape.{Shape}
 use Rattle.shape.specs.Shape.{size}
-use Rattle.checking.specs.declared.Checked.{Checked}
 use Rattle.checking.specs.declared.Checked.the-variants.{Sound, Unmet}
 use Rattle.code.specs.Code.{narrow}
 use Rattle.code.specs.Archive.{equation, unmet, firstUnmet}

@@ -1,7 +1,7 @@
 -- The data symbols: what the look at them answers, and what the answer tells.
 use mathlib.Core.Path.{_≡_, sym, ap, ap₂, _∙_, subst}
 use mathlib.Core.Logic.{_≢_, _↔_}
-use mathlib.Core.Bool.{true, false, not}
+use mathlib.Core.Bool.{false, not}
 use mathlib.Core.List.{List}
 use Prim.Native.Nat.{ℕ, _+_, _*_, _/_, _%_, _<_, _≤_}
 use native.Mathlib.Omega.{arith}
@@ -19,7 +19,6 @@ use Rattle.shape.specs.Refusals.{symbolBad}
 use Rattle.shape.proofs.Accepted.{symbols-accepted}
 use Rattle.code.specs.Archive.{symbol, high, firstHigh, LowData}
 use Rattle.code.proofs.High.{data-symbol, high-upto, high-none-iff, high-first}
-use Rattle.checking.specs.declared.Checked.{Checked}
 use Rattle.checking.specs.declared.Checked.the-variants.{Sound, HighData}
 use Rattle.checking.specs.Promises.{dataBy, symbolNumber, FirstHigh}
 use Rattle.checking.proofs.Answers.{before-end, sound-at-end}

@@ -1,12 +1,12 @@
 -- Document 02 §5 as theorems about the promises: what was written is sound; what is sound opens, from any k nodes; where the check names a
 -- data symbol, opening gives 7.
-use mathlib.Core.Path.{_≡_, refl, sym, ap, _∙_, subst}
+use mathlib.Core.Path.{_≡_, refl, sym, _∙_, subst}
 use mathlib.Core.Logic.{_≢_}
 use mathlib.Core.Bool.{true, false}
 use mathlib.Core.List.{List}
-use Prim.Native.Nat.{ℕ, _+_, _*_, _≤_, _<_}
+use Prim.Native.Nat.{ℕ, _*_, _≤_}
 use native.Mathlib.Omega.{arith}
-use lib.ListN.{length, getD}
+use lib.ListN.{length}
 use Rattle.lists.specs.Lists.{all, below}
 use Rattle.lists.proofs.Tests.{all-below-at}
 use Rattle.shape.specs.declared.Shape.{Shape}
@@ -16,8 +16,8 @@ use Rattle.shape.specs.Shape.{size, byteValues}
 use Rattle.shape.specs.Refusals.{answerNumber, shapeBad}
 use Rattle.shape.proofs.Answers.{afterwards-done}
 use Rattle.code.specs.Code.{narrow}
-use Rattle.code.specs.Archive.{Codeword, written, Holds, LowData, OfTranscript}
-use Rattle.code.specs.Refusals.{writeRefusal, checkRefusal, openSizeRefusal}
+use Rattle.code.specs.Archive.{written, Holds, LowData}
+use Rattle.code.specs.Refusals.{writeRefusal, openSizeRefusal}
 use Rattle.code.specs.Promises.{Writes, Opens}
 use Rattle.code.proofs.Accepted.{bytes-writable, write-accepted, open-accepted, open-seven}
 use Rattle.code.proofs.Sized.{held-input}

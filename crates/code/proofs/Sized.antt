@@ -1,20 +1,19 @@
 -- Symbols that are a codeword's are below the modulus, so that cause 5 has no part in demand 2.
-use mathlib.Core.Path.{_≡_, sym, ap, _∙_}
-use mathlib.Core.Bool.{true, false, not, _||_}
+use mathlib.Core.Path.{_≡_, ap, _∙_}
+use mathlib.Core.Bool.{false, _||_}
 use mathlib.Core.List.{List}
-use Prim.Native.Nat.{ℕ, _+_, _*_, _/_, _%_, _≤_, _<_}
+use Prim.Native.Nat.{ℕ, _*_, _/_, _%_, _≤_, _<_}
 use native.Mathlib.Omega.{arith}
 use borrow.Author.Tests.{ltb-false, eqb-true, not-false}
 use lib.Arith.{digits-lt}
 use lib.Dec.{ltb}
 use lib.ListN.{length, getD}
-use Rattle.lists.specs.Lists.{all, below}
 use Rattle.lists.proofs.Tests.{neither, at-all-below}
 use Rattle.lists.proofs.Members.{rising-below}
-use Rattle.lists.proofs.Places.{Place, place-of}
+use Rattle.lists.proofs.Places.{place-of}
 use Rattle.shape.specs.declared.Shape.{Shape}
-use Rattle.shape.specs.Shape.{size, byteValues}
-use Rattle.shape.specs.Refusals.{refuse, shapeBad, nodesBad, wrongLength, symbolBad}
+use Rattle.shape.specs.Shape.{size}
+use Rattle.shape.specs.Refusals.{shapeBad, nodesBad, wrongLength, symbolBad}
 use Rattle.shape.proofs.Accepted.{passed, nodes-accepted}
 use Rattle.code.specs.Code.{narrow}
 use Rattle.code.specs.Archive.{symbol, written, Codeword, Holds, Transcript}

@@ -9,7 +9,7 @@ use native.Mathlib.Omega.{arith}
 use lib.Arith.{digits-lt}
 use lib.ListN.{length, getD, take}
 use lib.Seq.{getD-take, length-take-le}
-use Rattle.lists.proofs.Places.{Place, place-of}
+use Rattle.lists.proofs.Places.{place-of}
 use Rattle.shape.specs.declared.Shape.{Shape}
 use Rattle.shape.specs.Shape.{size}
 use Rattle.code.specs.Code.{Code, GoodCode}
