@@ -409,7 +409,8 @@ fn drives_that_agree_and_hold_no_transcript_are_not_sound() {
     for (node, symbols) in nodes.chunks(64).enumerate() {
         fs::write(place.card("drives", node), shape.pack_to_vec(node, 192, symbols).unwrap()).unwrap();
     }
-    let words = ["not sound: the drives agree, but they hold no transcript", "node 1 (drives/node-01.card)", "place 5,"];
+    let words =
+        ["not sound: the drives agree, but they hold no transcript", "node 1 (drives/node-01.card)", "place 5,"];
     place.refuses("check drives", LOST, &words);
     for line in ["open drives opened", "repair drives"] {
         place.refuses(line, LOST, &["refusal 7"]);

@@ -129,8 +129,7 @@ fn check_finds_every_equation() {
 fn check_finds_every_data_symbol() {
     let mut random = Random::new(1);
     let shape = Shape { n: 7, k: 3, layers: 2 };
-    let library = hmsr::Shape { nodes: 7, data: 3, layers: 2 };
-    let size = shape.symbols();
+    let (library, size) = (compare::library(shape), shape.symbols());
     for e in 0..shape.capacity() {
         let mut data = random.symbols(shape.capacity());
         data[..e].iter_mut().for_each(|symbol| *symbol %= 256);
@@ -141,6 +140,29 @@ fn check_finds_every_data_symbol() {
         *last = (*last + 1) % 257;
         assert_eq!(library.check(&nodes), Ok(hmsr::Checked::Unmet { layer: 1, a: 127, t: 0 }));
     }
+}
+
+/// Of codewords, those are sound that open with all k × N bytes, from any k nodes, and are what writing these bytes gives.
+#[test]
+fn sound_archives_are_transcripts() {
+    let mut tally = [0; 2];
+    for seed in (1..=400).map(Seed) {
+        let random = &mut Random::new(seed.0);
+        let shape = random_shape(random);
+        let no_bytes = random.below(3);
+        let nodes = random.codeword_of_bytes(shape, no_bytes);
+        let list = random.nodes(shape, shape.k);
+        let library = compare::library(shape);
+        let opened = library.open_to_vec(&list, &symbols_of(shape, &nodes, &list), shape.capacity());
+        match library.check(&nodes) {
+            Ok(hmsr::Checked::Sound) if no_bytes == 0 => assert!(library.write_to_nodes(&opened.unwrap()) == Ok(nodes)),
+            Ok(hmsr::Checked::HighData { .. }) if no_bytes > 0 => assert_eq!(opened, Err(hmsr::Refusal::NoTranscript)),
+            other => panic!("{other:?}"),
+        }
+        tally[no_bytes.min(1)] += 1;
+    }
+    println!("{tally:?} without and with symbols 256");
+    assert!(tally.iter().all(|&count| count > 100));
 }
 
 /// "An office was told its drives were sound, and opening them gave 7" (document 02 §5): data nodes full of 256.

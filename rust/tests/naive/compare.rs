@@ -7,7 +7,7 @@ use super::naive::random::Random;
 use super::naive::{self, Fault, Header, Number, Shape};
 use hmsr::{Checked, Refusal};
 
-fn library(shape: Shape) -> hmsr::Shape {
+pub fn library(shape: Shape) -> hmsr::Shape {
     hmsr::Shape { nodes: shape.n, data: shape.k, layers: shape.layers }
 }
 
