@@ -43,7 +43,7 @@ module _ (s : Shape) (nodes : List ℕ) where
   shape-good : (answer : Checked) → checkedNumber answer ≡ 0 → Checks s nodes answer → shapeBad s ≡ false
   shape-good answer e p = check-shape s nodes (sym (p .number) ∙ e)
 
-  -- nodes of which a data symbol is named are what writing no bytes gives
+  -- where a data symbol is named, there are no bytes of which these nodes are written
   unwritten : (node place : ℕ) → Checks s nodes (HighData node place) → (bytes : List ℕ) → all (below byteValues) bytes ≡ true → length bytes ≤ s .k * size s
       → nodes ≢ written narrow s bytes
   unwritten node place p bytes small room same =
