@@ -15,7 +15,7 @@ use Rattle.shape.specs.Shape.{size}
 use Rattle.code.specs.Code.{Code, GoodCode}
 use Rattle.code.specs.Archive.{symbol, Codeword, written, LowData, OfTranscript}
 use Rattle.code.proofs.High.{data-symbol}
-use Rattle.code.proofs.Written.{Writable, written-codeword, written-data, written-only}
+use Rattle.code.proofs.Written.{Writable, low-writable, written-codeword, written-data, written-only}
 
 module _ (values : ℕ) (c : Code) (s : Shape) where
   -- what is written of bytes has nothing else on its data nodes
@@ -30,7 +30,7 @@ module _ (values : ℕ) (c : Code) (s : Shape) where
 
   module _ (good : GoodCode c (s .n)) (room : s .k ≤ s .n) (some : 0 < values) (wide : values ≤ c .modulus) (nodes : List ℕ) where
     writable : (bytes : List ℕ) → length bytes ≡ s .k * size s → ((b : ℕ) → b < s .k * size s → getD bytes b 0 < values) → Writable c s bytes
-    writable bytes long low = record { code = good; fits = room; small = λ b h. omega (arith, low b (omega arith)); room = omega arith }
+    writable bytes long low = low-writable values c s bytes good room wide (λ b h. low b (omega arith)) (omega arith)
 
     -- the bytes are what the data nodes hold
     of-data : Codeword c s nodes × LowData values s nodes → OfTranscript values c s nodes
