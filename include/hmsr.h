@@ -50,7 +50,7 @@ extern "C" {
 /* A symbol handed in is above 256 (hmsr_repair looks at the helpers' symbols only). */
 #define HMSR_BAD_SYMBOL 5
 
-/* A card, or the input of a plan, malformed. */
+/* A card, or the input of a plan, malformed; in cards also a transcript length above k * N, or a hearing number above 999999. */
 #define HMSR_MALFORMED 6
 
 /* Opening: the symbols are not those of a transcript of that length. */
@@ -101,8 +101,8 @@ static inline size_t hmsr_card_room(size_t n, size_t k, size_t layers) {
     return symbols == 0 ? 0 : 15 + 2 * symbols;
 }
 
-/* The length of a header buffer of hmsr_unpack: n, k, layers, node, length. */
-#define HMSR_HEADER 5
+/* The length of a header buffer of hmsr_unpack: n, k, layers, node, length, hearing. */
+#define HMSR_HEADER 6
 
 /* The least length of a text buffer of hmsr_plan. */
 #define HMSR_PLAN_TEXT 2049
@@ -174,16 +174,19 @@ size_t hmsr_repair(size_t n, size_t k, size_t layers,
                    uint16_t *nodes, size_t nodes_length,
                    uint16_t *wire, size_t wire_length);
 
-/* Packs the N symbols of a node into a card, in the front of a buffer of 15 + 2 * N bytes; `length` is the transcript's. Returns a
- * refusal number (1, 2, 6 for a length above k * N, 4, 5, judged in this order), below 256; or 256 + the card's length. Bytes behind the
- * card keep their values. */
-size_t hmsr_pack(size_t n, size_t k, size_t layers, size_t node, size_t length,
+/* Packs the N symbols of a node into a card, in the front of a buffer of 15 + 2 * N bytes; `length` is the transcript's, `hearing` the
+ * hearing number, 1 to 999999, or 0 for none. A card with a hearing number starts with the number 1, which is no n. Returns a refusal
+ * number (1, 2, 6 for a length above k * N, 6 for a hearing number above 999999, 4, 5, judged in this order), below 256; or 256 + the
+ * card's length. Bytes behind the card keep their values. */
+size_t hmsr_pack(size_t n, size_t k, size_t layers, size_t node, size_t length, size_t hearing,
                  const uint16_t *symbols, size_t symbols_length,
                  uint8_t *card, size_t card_length);
 
-/* Unpacks a card into N symbols and a header of HMSR_HEADER numbers: n, k, layers, node, transcript length. A header buffer of
- * another length is judged with the symbols' buffer (4). Judged in this order: the form of the five numbers (6), 1, 2, the length against
- * k * N (6), 4, each symbol's form (6) then value (5), bytes left over (6). */
+/* Unpacks a card into N symbols and a header of HMSR_HEADER numbers: n, k, layers, node, transcript length, hearing number (0 for none).
+ * A header buffer of another length is judged with the symbols' buffer (4). In front of its symbols a card has five numbers, n to the
+ * length, or, where the first is 1, seven: this 1, the five, and the hearing number. Judged in this order: the form of the five or
+ * seven numbers (6), 1, 2, the length against k * N (6), a hearing number that is 0 behind a leading 1 or above 999999 (6), 4, each
+ * symbol's form (6) then value (5), bytes left over (6). */
 size_t hmsr_unpack(const uint8_t *card, size_t card_length,
                    uint16_t *symbols, size_t symbols_length,
                    size_t *header, size_t header_length);

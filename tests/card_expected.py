@@ -1,6 +1,6 @@
 #!/usr/bin/env python3
 """What rust/tests/stored.rs must print for cards, and the program crates/numbers_test for the numbers in them, worked
-out from documents 01 ("Cards", "Shape and symbols", "When a call turns back") and 02 (§7) alone.
+out from documents 01 ("Cards", "Shape and symbols", "When a call turns back") and 02 (§7, §9) alone.
 
     python3 tests/card_expected.py > tests/stored/card.txt
     python3 tests/card_expected.py numbers > crates/numbers_test/stdout
@@ -13,12 +13,18 @@ from code_expected import shape_bad
 
 BIG = 2 ** 64 - 1
 SAMPLE = bytes([3, 1, 1, 1, 2, 253, 1, 247, 1, 0, 0, 0, 0, 0, 0])
+# the same card with hearing number 700 = 5 * 128 + 60 (document 02 §9), and its numbers
+HEARING_SAMPLE = bytes([1, 3, 1, 1, 1, 2, 188, 5, 253, 1, 247, 1, 0, 0, 0, 0, 0, 0])
+HEARING_NUMBERS = [1, 3, 1, 1, 1, 2, 700, 253, 247, 0, 0, 0, 0, 0, 0]
 BYTES = [0, 1, 3, 128, 129, 255]
 SYMBOLS = [0, 1, 127, 128, 255, 256, 257, 16383, 16384, 65535]
 LAYERS = [0, 1, 2, 15, 16]
 NODES = [0, 1, 2, 3, 13, 14, BIG]
 LENGTHS = [0, 8, 9, 127, BIG]
 PLACES = [0, 1, 2, 3, 4, 5, 14, 15]
+# of a card's numbers with a hearing number: those of the header, the first and the last symbol, or behind them
+HEARING_PLACES = [0, 1, 2, 3, 4, 5, 6, 7, 14, 15]
+HEARINGS = [0, 1, 127, 128, 16383, 16384, 999999, 1000000, 2097151, 2097152, 268435455, 268435456, BIG]
 
 
 # ---- the paper
@@ -51,16 +57,31 @@ def header_cause(n, k, layers, node, length):
     return 6 if length > k * layers * 2 ** n else 0
 
 
-def unpack(data, room):
-    """The number, the five header numbers, the symbols."""
-    found, at = [], 0
-    for _ in range(5):
+def front(data):
+    """(n, k, L, node, length, and behind a leading 1 the hearing number; place behind them), or None: "The form of all
+    header numbers, the hearing number's too, is judged first" (document 02 §9)."""
+    first = number(data, 0)
+    leading = first is not None and first[0] == 1
+    found, at = [], first[1] if leading else 0
+    while len(found) < 5 + leading:
         read = number(data, at)
         if read is None:
-            return 6, None, None
+            return None
         found.append(read[0])
         at = read[1]
-    cause = header_cause(*found)
+    return found, at
+
+
+def unpack(data, room):
+    """The number; the five header numbers, and the hearing number where there is one; the symbols."""
+    read = front(data)
+    if read is None:
+        return 6, None, None
+    found, at = read
+    cause = header_cause(*found[:5])
+    # "A leading 1 followed later by hearing 0, or a value above 999,999 .., is 6, judged after the length"
+    if not cause and not all(1 <= hearing <= 999999 for hearing in found[5:]):
+        cause = 6
     if cause:
         return cause, None, None
     size = found[2] * 2 ** found[0]
@@ -78,17 +99,26 @@ def unpack(data, room):
     return (6, None, None) if at < len(data) else (0, found, symbols)
 
 
-def pack(header, symbols, room):
-    """The number and the card."""
+def joined(numbers):
+    return b''.join(map(numeral, numbers))
+
+
+def pack(header, hearing, symbols, room):
+    """The number and the card, of the five header numbers and the hearing number, 0 for none."""
     cause = header_cause(*header)
     if cause:
         return cause, None
+    if hearing > 999999:
+        return 6, None
     size = header[2] * 2 ** header[0]
     if len(symbols) != size or room != 15 + 2 * size:
         return 4, None
     if max(symbols) > 256:
         return 5, None
-    return 0, b''.join(numeral(v) for v in list(header) + list(symbols))
+    # "With 0 a card is packed as today. Otherwise the card starts with the number 1, then n, k, L, node, length, hearing
+    # number, symbols." (document 02 §9)
+    front = [1, *header, hearing] if hearing else header
+    return 0, joined([*front, *symbols])
 
 
 # ---- the cases
@@ -115,8 +145,8 @@ class Tally:
         if room <= 24:
             self.mix(*self.unpacked(data, [7] * room), *[7] * (24 - room))
 
-    def pack(self, header, symbols, room):
-        cause, card = pack(header, symbols, room)
+    def pack(self, header, hearing, symbols, room):
+        cause, card = pack(header, hearing, symbols, room)
         self.count(cause)
         if card is not None:
             self.mix(len(card))
@@ -132,13 +162,13 @@ class Tally:
         print(name, self.digest, *self.counts)
 
 
-def cut(t, i):
-    t.unpack(SAMPLE[:i], 8)
+def cut(t, i, sample=SAMPLE):
+    t.unpack(sample[:i], 8)
 
 
-def changed(t, i):
+def changed(t, i, sample=SAMPLE):
     place, byte = divmod(i, 256)
-    t.unpack(SAMPLE[:place] + bytes([byte]) + SAMPLE[place + 1:], 8)
+    t.unpack(sample[:place] + bytes([byte]) + sample[place + 1:], 8)
 
 
 def twice(t, i):
@@ -148,8 +178,8 @@ def twice(t, i):
     t.unpack(bytes(card), 8)
 
 
-def rooms(t, i):
-    t.unpack(SAMPLE, i)
+def rooms(t, i, sample=SAMPLE):
+    t.unpack(sample, i)
 
 
 def with_form(t, at, form):
@@ -178,7 +208,7 @@ def lengthy(i):
 
 
 def lengths(t, i):
-    t.unpack(b''.join(map(numeral, lengthy(i))) + SAMPLE[5:], 8)
+    t.unpack(joined(lengthy(i)) + SAMPLE[5:], 8)
 
 
 def placed(t, i):
@@ -194,37 +224,106 @@ def pack_headed(t, i):
     header = [n, i // 17 % 15, LAYERS[i // 255 % 5], NODES[i // 1275 % 7], LENGTHS[i // 8925 % 5]]
     symbols = [256] * 8
     symbols[5] += i // 44625 % 2
-    t.pack(header, symbols, 30 + i // 89250)
+    t.pack(header, 0, symbols, 30 + i // 89250)
 
 
 def pack_lengths(t, i):
-    t.pack(lengthy(i), [256] * 8, 31)
+    t.pack(lengthy(i), 0, [256] * 8, 31)
 
 
-def pack_symbols(t, i):
+def pack_symbols(t, i, hearing=0):
     symbols = [256] * 8
     symbols[i % 8] = SYMBOLS[i // 8]
-    t.pack([3, 1, 1, 1, 2], symbols, 31)
+    t.pack([3, 1, 1, 1, 2], hearing, symbols, 31)
 
 
-def pack_rooms(t, i):
-    t.pack([3, 1, 1, 1, 2], [257] * (i % 11), i // 11)
+def pack_rooms(t, i, hearing=0, symbol=257):
+    t.pack([3, 1, 1, 1, 2], hearing, [symbol] * (i % 11), i // 11)
 
 
-def ends(groups):
+def ends(name, places, put):
     """The smallest and the largest number of so many groups, in each place."""
-    t = Tally()
-    for value in (128 ** (groups - 1) if groups > 1 else 0, 128 ** groups - 1):
-        for at in PLACES:
-            with_form(t, at, numeral(value))
-    t.line(f'ends-{groups}')
+    for groups in range(1, 6):
+        t = Tally()
+        for value in (128 ** (groups - 1) if groups > 1 else 0, 128 ** groups - 1):
+            for at in places:
+                put(t, at, numeral(value))
+        t.line(f'{name}-{groups}')
 
 
-def largest(name, header):
+# ---- the cases with a hearing number (document 02 §9)
+
+def hearing_cut(t, i):
+    cut(t, i, HEARING_SAMPLE)
+
+
+def hearing_changed(t, i):
+    changed(t, i, HEARING_SAMPLE)
+
+
+def hearing_rooms(t, i):
+    rooms(t, i, HEARING_SAMPLE)
+
+
+def with_forms(t, forms):
+    """The card with forms in place of some of its numbers."""
+    numerals = dict(enumerate(map(numeral, HEARING_NUMBERS))) | forms
+    t.unpack(b''.join(numerals[at] for at in sorted(numerals)), 8)
+
+
+def with_number(t, at, form):
+    with_forms(t, {at: form})
+
+
+def form(i):
+    """The forms of one byte, of two, and so on to five."""
+    count = 1
+    while i >= 6 ** count:
+        i -= 6 ** count
+        count += 1
+    return coded(i, count)
+
+
+def hearing_formed(t, i):
+    with_number(t, HEARING_PLACES[i % 10], form(i // 10))
+
+
+def hearing_twice(t, i):
+    """Two of the header's numbers and the first symbol: which cause comes first."""
+    forms = [numeral(0), numeral(3), numeral(9), numeral(257), numeral(1000000), numeral(268435455),
+             bytes([129, 0]), bytes([188, 133, 128, 128, 1])]
+    with_forms(t, {i % 8: forms[i // 64 % 8], i // 8 % 8: forms[i // 512]})
+
+
+def judged(i):
+    """A hearing number; n, node and length, each good or bad; what is missing in a buffer; what a symbol has too much."""
+    header = [3 - i // 13 % 2, 1, 1, 1 + i // 26 % 2 * 2, 2 + i // 52 % 2 * 7]
+    return HEARINGS[i % 13], header, i // 104 % 2, i // 208
+
+
+def hearing_values(t, i):
+    hearing, header, missing, more = judged(i)
+    t.unpack(joined([1, *header, hearing, 256 + more, *HEARING_NUMBERS[8:]]), 8 - missing)
+
+
+def pack_hearing_values(t, i):
+    hearing, header, missing, more = judged(i)
+    t.pack(header, hearing, [256 + more] + [256] * 7, 31 - missing)
+
+
+def pack_hearing_symbols(t, i):
+    pack_symbols(t, i, 700)
+
+
+def pack_hearing_rooms(t, i):
+    pack_rooms(t, i, 700, 256)
+
+
+def largest(name, header, hearing=0):
     t = Tally()
     size = header[2] * 2 ** header[0]
     room = 15 + 2 * size
-    cause, card = pack(header, [i % 257 for i in range(size)], room)
+    cause, card = pack(header, hearing, [i % 257 for i in range(size)], room)
     assert cause == 0
     t.mix(len(card), *card, *[170] * (room - len(card)))
     back = t.unpacked(card, [7] * size)
@@ -243,13 +342,16 @@ def run(groups):
 
 def cards():
     run([(cut, 16), (changed, 3840), (twice, 1296), (rooms, 25), (formed, 311040)])
-    for groups in range(1, 6):
-        ends(groups)
+    ends('ends', PLACES, with_form)
     run([(headed, 44625), (lengths, 2160), (pack_headed, 178500), (pack_lengths, 2160), (pack_symbols, 80),
          (pack_rooms, 539)])
     # "Cards accepted until now read as before" (document 02 §7): the largest until now, and the largest
     largest('twelve', [12, 10, 15, 11, 614400])
     largest('fourteen', [14, 12, 15, 13, 2949120])
+    run([(hearing_cut, 19), (hearing_changed, 4608), (hearing_rooms, 25), (hearing_formed, 93300), (hearing_twice, 4096)])
+    ends('hearing-ends', HEARING_PLACES, with_number)
+    run([(hearing_values, 416), (pack_hearing_values, 416), (pack_hearing_symbols, 80), (pack_hearing_rooms, 539)])
+    largest('hearing-fourteen', [14, 12, 15, 13, 2949120], 999999)
 
 
 def numbers():

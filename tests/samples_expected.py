@@ -1,5 +1,6 @@
 #!/usr/bin/env python3
-"""What rust/tests/stored.rs must make of the samples of document 01 ("Samples on both edges"), its numbers written down.
+"""What rust/tests/stored.rs must make of the samples of document 01 ("Samples on both edges"), its numbers written down,
+and of a card with a hearing number (document 02 §9), worked out by hand.
 
     python3 tests/samples_expected.py > tests/stored/samples.txt
 
@@ -32,6 +33,13 @@ show(15, 3, 1, 1, 1, 2, 253, 1, 247, 1, 0, 0, 0, 0, 0, 0, *[9] * 16)
 show(5, *[9] * 8)
 show(6, *[9] * 8)
 show(2, 256, *[0] * 7)
+# the same card with hearing number 700, which is 5 * 128 + 60: 1 in front, 188 5 behind the length, 18 bytes in all
+show(18, 1, 3, 1, 1, 1, 2, 188, 5, 253, 1, 247, 1, 0, 0, 0, 0, 0, 0, *[9] * 13)
+# it is unpacked again; with hearing number 999999 (191 132 61) it is read, with 1000000 (192 132 61) or 0 it gives 6
+show(700, 253, 247, *ZEROS)
+show(999999, 253, 247, *ZEROS)
+show(6, *[9] * 8)
+show(6, *[9] * 8)
 # node 1 holding 87 then zeros, length 1: opening gives 7
 show(7, 9)
 # n=3, k=1, h=2 gives 2; n=4, k=1, h=2: L=1 gives 3, L=3 is accepted

@@ -284,9 +284,10 @@ fn bench_steps(table: &mut Table, written: &Written, choice: &Choice, wire: &[u1
 
 fn bench_cards(table: &mut Table, written: &Written) {
     let Written { shape, plain, .. } = written;
-    let (size, length, node) = (plain.symbols(), plain.capacity(), plain.n - 1);
+    let (size, length, node, hearing) = (plain.symbols(), plain.capacity(), plain.n - 1, 0);
     let own = written.node(node);
-    let header = naive::Header { shape: *plain, node, length };
+    let header = naive::Header { shape: *plain, node, length, hearing };
+    let library_header = hmsr::Header { shape: *shape, node, length, hearing };
     let room = 15 + 2 * size;
     let mut buffer = vec![0; room];
     let packed = naive::pack(header, own, room).unwrap();
@@ -295,7 +296,7 @@ fn bench_cards(table: &mut Table, written: &Written) {
         written.name("pack"),
         size,
         size,
-        || shape.pack(node, length, black_box(own), &mut buffer).unwrap(),
+        || library_header.pack(black_box(own), &mut buffer).unwrap(),
         || naive::pack(header, black_box(own), room).unwrap(),
     );
     table.line(

@@ -3,7 +3,7 @@
 //! Why each is safe: every pointer and the length behind it come from one slice, so it is valid for that many elements
 //! for the whole call, aligned and not null (empty slices too); `&mut` slices overlap nothing else that is handed in;
 //! and the functions are proved to read and write only within the buffers they are lent, on all numbers, and keep none.
-use crate::{Repair, Shape};
+use crate::{Header, Repair, Shape};
 
 extern "C" {
     fn hmsr_write(
@@ -39,8 +39,8 @@ extern "C" {
         helpers_len: usize, nodes: *mut u16, nodes_len: usize, wire: *mut u16, wire_len: usize,
     ) -> usize;
     fn hmsr_pack(
-        n: usize, k: usize, layers: usize, node: usize, length: usize, symbols: *const u16, symbols_len: usize,
-        card: *mut u8, card_len: usize,
+        n: usize, k: usize, layers: usize, node: usize, length: usize, hearing: usize, symbols: *const u16,
+        symbols_len: usize, card: *mut u8, card_len: usize,
     ) -> usize;
     fn hmsr_unpack(
         card: *const u8, card_len: usize, symbols: *mut u16, symbols_len: usize, header: *mut usize, header_len: usize,
@@ -179,15 +179,16 @@ pub(crate) fn repair(r: Repair, nodes: &mut [u16], wire: &mut [u16]) -> usize {
     }
 }
 
-pub(crate) fn pack(s: Shape, node: usize, length: usize, symbols: &[u16], card: &mut [u8]) -> usize {
+pub(crate) fn pack(h: Header, symbols: &[u16], card: &mut [u8]) -> usize {
     // SAFETY: see the top of this file.
     unsafe {
         hmsr_pack(
-            s.nodes,
-            s.data,
-            s.layers,
-            node,
-            length,
+            h.shape.nodes,
+            h.shape.data,
+            h.shape.layers,
+            h.node,
+            h.length,
+            h.hearing,
             symbols.as_ptr(),
             symbols.len(),
             card.as_mut_ptr(),

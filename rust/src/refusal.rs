@@ -16,7 +16,7 @@ pub enum Refusal {
     WrongLength = 4,
     /// A symbol handed in is above 256.
     BadSymbol = 5,
-    /// A card or the plan's input is malformed.
+    /// A card or the plan's input is malformed; or a card's transcript is too long, or its hearing number above 999 999.
     Malformed = 6,
     /// The symbols are not those of a transcript of that length.
     NoTranscript = 7,

@@ -9,6 +9,8 @@ mod arguments;
 mod faults;
 #[path = "cli/files.rs"]
 mod files;
+#[path = "cli/hearing.rs"]
+mod hearing;
 #[path = "cli/json.rs"]
 mod json;
 #[path = "cli/kills.rs"]
@@ -407,7 +409,8 @@ fn drives_that_agree_and_hold_no_transcript_are_not_sound() {
     let nodes = shape.restore_nodes(&[0, 1, 2], &data).unwrap();
     fs::create_dir(place.path("drives")).unwrap();
     for (node, symbols) in nodes.chunks(64).enumerate() {
-        fs::write(place.card("drives", node), shape.pack_to_vec(node, 192, symbols).unwrap()).unwrap();
+        let card = hmsr::Header { shape, node, length: 192, hearing: 0 }.pack_to_vec(symbols).unwrap();
+        fs::write(place.card("drives", node), card).unwrap();
     }
     let words =
         ["not sound: the drives agree, but they hold no transcript", "node 1 (drives/node-01.card)", "place 5,"];

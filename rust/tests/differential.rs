@@ -413,25 +413,27 @@ fn repair() {
 fn random_header(random: &mut Random) -> Header {
     let shape = random_shape(random);
     let between = random.below(shape.capacity() + 1);
-    Header { shape, node: random.below(shape.n), length: random.choose(&[0, 127, 128, shape.capacity(), between]) }
+    let length = random.choose(&[0, 127, 128, shape.capacity(), between]);
+    Header { shape, node: random.below(shape.n), length, hearing: random.hearing() }
 }
 
 #[test]
 fn pack() {
-    try_cases(3000, &[0, 1, 2, 4, 5, 6], |random| {
+    try_cases(4000, &[0, 1, 2, 4, 5, 6], |random| {
         let mut header = random_header(random);
         let size = header.shape.symbols();
         let capacity = header.shape.capacity();
         let mut symbols = random.symbols(size);
         let mut card_length = 15 + 2 * size;
         for _ in 0..random.below(3) {
-            match random.below(8) {
+            match random.below(9) {
                 0 => random.spoil_shape(&mut header.shape),
                 1 => header.node = random.choose(&[header.shape.n, usize::MAX, 1 << 32, (1 << 32) + 1, 256]),
                 2 => header.length = random.choose(&[capacity + 1, usize::MAX, 1 << 32, 1 << 21]),
                 3 => random.spoil_length(&mut card_length),
                 4 => drop(symbols.pop()),
                 5 => random.spoil_symbols(&mut symbols),
+                6 => header.hearing = random.no_hearing(),
                 _ => {}
             }
         }
@@ -446,22 +448,31 @@ fn malformed(random: &mut Random) -> Vec<u8> {
     random.choose(&forms).to_vec()
 }
 
+/// A card's numbers, with a leading 1 and hearing 0 now and then.
+fn random_numbers(random: &mut Random, header: Header) -> Vec<usize> {
+    let mut numbers = naive::card::header_numbers(header);
+    if header.hearing == 0 && random.once_in(6) {
+        numbers = [&[1], &numbers[..], &[0]].concat();
+    }
+    numbers.extend(random.symbols(header.shape.symbols()).into_iter().map(usize::from));
+    numbers
+}
+
 /// A card that is made number by number, so that each can be wrong in its form or its value.
 fn random_card(random: &mut Random, header: Header) -> Vec<u8> {
-    let size = header.shape.symbols();
-    let Header { shape, node, length } = header;
-    let mut numbers = vec![shape.n, shape.k, shape.layers, node, length];
-    numbers.extend(random.symbols(size).into_iter().map(usize::from));
+    let mut numbers = random_numbers(random, header);
+    let count = numbers.len();
     let spoiled = |random: &mut Random| {
-        let index = random.below(5 + size);
-        let near_front = random.below(10);
-        random.choose(&[index, near_front, 4 + size])
+        let index = random.below(count);
+        let near_front = random.below(12);
+        random.choose(&[index, near_front, count - 1])
     };
     let mut malformed_at = None;
     match random.below(6) {
         0 => malformed_at = Some(spoiled(random)),
         1 => {
-            let values = [0, 15, 16, 257, 16383, 16384, 1 << 20, (1 << 21) - 1, 1 << 21, (1 << 28) - 1];
+            let values =
+                [0, 1, 15, 16, 257, 16383, 16384, 999_999, 1_000_000, 1 << 20, (1 << 21) - 1, 1 << 21, (1 << 28) - 1];
             numbers[spoiled(random)] = random.choose(&values);
         }
         2 => {
@@ -482,15 +493,16 @@ fn random_card(random: &mut Random, header: Header) -> Vec<u8> {
 
 #[test]
 fn unpack() {
-    try_cases(3000, &[0, 1, 2, 4, 5, 6], |random| {
+    try_cases(4000, &[0, 1, 2, 4, 5, 6], |random| {
         let mut header = random_header(random);
         let mut symbols_length = header.shape.symbols();
-        let mut header_length = 5;
+        let mut header_length = 6;
         match random.below(12) {
             0 => header.node = header.shape.n,
             1 => header.length = header.shape.capacity() + 1,
             2 | 3 => random.spoil_length(&mut symbols_length),
-            4 => header_length = random.choose(&[0, 4, 6]),
+            4 => header_length = random.choose(&[0, 5, 7]),
+            5 => header.hearing = random.choose(&[1_000_000, 1 << 20, (1 << 21) - 1, 1 << 21, (1 << 28) - 1]),
             _ => {}
         }
         let mut card = random_card(random, header);
@@ -502,6 +514,67 @@ fn unpack() {
         }
         compare::unpack(random, &card, symbols_length, header_length)
     });
+}
+
+/// A sample of each form: document 01's card for node 1 of its first archive, and the same with hearing number 700.
+fn samples() -> [Vec<usize>; 2] {
+    let symbols = [253, 247, 0, 0, 0, 0, 0, 0];
+    [[&[3, 1, 1, 1, 2][..], &symbols].concat(), [&[1, 3, 1, 1, 1, 2, 700][..], &symbols].concat()]
+}
+
+fn numeral(number: usize) -> Vec<u8> {
+    let mut bytes = Vec::new();
+    naive::card::put_number(&mut bytes, number);
+    bytes
+}
+
+/// Numbers at the ends of ranges and groups, and forms that are not read.
+fn forms() -> Vec<Vec<u8>> {
+    let ends = [0, 1, 2, 3, 4, 7, 8, 9, 14, 15, 16, 127, 128, 256, 257, 700, 16_383, 16_384, 999_999, 1_000_000];
+    let groups = [(1 << 21) - 1, 1 << 21, (1 << 28) - 1, 1 << 28];
+    let bad: [&[u8]; 7] =
+        [&[], &[128], &[128, 0], &[129, 0], &[188, 133, 0], &[188, 133, 128, 0], &[188, 133, 128, 128, 0]];
+    ends.into_iter().chain(groups).map(numeral).chain(bad.map(<[u8]>::to_vec)).collect()
+}
+
+/// Each number of a card's header, and its first and last symbol, in each form; and every two of the header's.
+#[test]
+fn header_numbers_replaced() {
+    let mut random = Random::new(1);
+    let mut tally = [0; 7];
+    for sample in samples() {
+        let header = sample.len() - 8;
+        let pairs = (0..header).flat_map(|first| (first..header).map(move |second| (first, second)));
+        for (first, second) in pairs.chain([(0, header), (0, sample.len() - 1), (header - 1, header)]) {
+            for (form, form_too) in forms().iter().flat_map(|form| forms().into_iter().map(move |too| (form, too))) {
+                let mut numbers: Vec<Vec<u8>> = sample.iter().map(|&number| numeral(number)).collect();
+                numbers[first] = form.clone();
+                numbers[second] = form_too;
+                tally[compare::unpack(&mut random, &numbers.concat(), 8, 6)] += 1;
+            }
+        }
+    }
+    println!("numbers 0 to 6 came up {tally:?}");
+    assert!([0, 1, 2, 4, 5, 6].iter().all(|&number: &usize| tally[number] > 0) && tally[3] == 0);
+}
+
+/// Cards of both forms, cut behind each byte, from none on.
+#[test]
+fn cards_cut_at_each_byte() {
+    let mut tally = [0; 2];
+    for seed in (1..=60).map(Seed) {
+        let random = &mut Random::new(seed.0);
+        let header = random.small_header();
+        let size = header.shape.symbols();
+        let card = naive::pack(header, &random.symbols(size), 15 + 2 * size).unwrap();
+        assert_eq!(compare::unpack(random, &card, size, 6), 0);
+        for length in 0..card.len() {
+            assert_eq!(compare::unpack(random, &card[..length], size, 6), 6, "cut to {length} bytes");
+        }
+        tally[header.hearing.min(1)] += 1;
+    }
+    println!("{tally:?} cards without and with a hearing number");
+    assert!(tally.iter().all(|&count| count > 15));
 }
 
 #[test]
@@ -552,9 +625,11 @@ fn largest_shapes() {
         let wire_length = dead_count * (k + dead_count) * size / (dead_count + 1);
         let lists = Lists { shape, dead, helpers };
         assert_eq!(compare::repair(&mut random, &lists, &nodes, wire_length), 0);
-        let header = Header { shape, node: n - 1, length: transcript.len() };
-        assert_eq!(compare::pack(&mut random, header, &nodes[all - size..], 15 + 2 * size), 0);
-        let card = naive::pack(header, &nodes[all - size..], 15 + 2 * size).unwrap();
-        assert_eq!(compare::unpack(&mut random, &card, size, 5), 0);
+        for hearing in [0, 999_999] {
+            let header = Header { shape, node: n - 1, length: transcript.len(), hearing };
+            assert_eq!(compare::pack(&mut random, header, &nodes[all - size..], 15 + 2 * size), 0);
+            let card = naive::pack(header, &nodes[all - size..], 15 + 2 * size).unwrap();
+            assert_eq!(compare::unpack(&mut random, &card, size, 6), 0);
+        }
     }
 }

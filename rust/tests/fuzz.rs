@@ -1,12 +1,15 @@
-//! Random and mutated cards and plan inputs, library beside naive implementation, for as many seconds each as the
-//! environment's HMSR_FUZZ_SECONDS says (3 if it says nothing). HMSR_SEED=.. makes another series of inputs.
+//! Random and mutated cards, what is packed into them, and plan inputs, library beside naive implementation, for as many
+//! seconds each as the environment's HMSR_FUZZ_SECONDS says (3 if it says nothing). HMSR_SEED=.. makes another series of
+//! inputs.
 
 #[path = "naive/compare.rs"]
 mod compare;
 mod naive;
 
+use naive::card::starts_with_1;
 use naive::random::Random;
 use naive::{Header, Shape};
+use std::fmt::Debug;
 use std::time::{Duration, Instant};
 
 fn from_environment(name: &str, otherwise: u64) -> u64 {
@@ -14,7 +17,7 @@ fn from_environment(name: &str, otherwise: u64) -> u64 {
 }
 
 /// Tries inputs made by `make` until the time is over; prints how many, and the input of a failure.
-fn fuzz(make: fn(&mut Random) -> Vec<u8>, compare: fn(&mut Random, &[u8]) -> usize) -> [usize; 10] {
+fn fuzz<T: Debug>(make: fn(&mut Random) -> T, compare: impl Fn(&mut Random, &T) -> usize) -> [usize; 10] {
     let mut random = Random::new(from_environment("HMSR_SEED", 1));
     let time = Duration::from_secs(from_environment("HMSR_FUZZ_SECONDS", 3));
     let start = Instant::now();
@@ -30,9 +33,9 @@ fn fuzz(make: fn(&mut Random) -> Vec<u8>, compare: fn(&mut Random, &[u8]) -> usi
 }
 
 /// Prints the input if the test panics while it holds this.
-struct Shown(Vec<u8>);
+struct Shown<T: Debug>(T);
 
-impl Drop for Shown {
+impl<T: Debug> Drop for Shown<T> {
     fn drop(&mut self) {
         if std::thread::panicking() {
             eprintln!("input {:?}", self.0);
@@ -73,29 +76,35 @@ fn random_bytes(random: &mut Random) -> Vec<u8> {
     (0..count).map(|_| byte(random)).collect()
 }
 
+/// A card of either form, mutated; now and then one form's front before the other's symbols.
 fn card(random: &mut Random) -> Vec<u8> {
     if random.once_in(8) {
         return random_bytes(random);
     }
-    let n = random.choose(&[3, 3, 3, 4, 5]);
-    let shape = Shape { n, k: random.between(1, n - 2), layers: random.choose(&[1, 1, 2, 15]) };
-    let length = random.below(shape.capacity() + 1);
-    let header = Header { shape, node: random.below(n), length };
-    let symbols = random.symbols(shape.symbols());
-    let good = naive::pack(header, &symbols, 15 + 2 * symbols.len()).unwrap();
-    mutated(random, good)
+    let header = random.small_header();
+    let symbols = random.symbols(header.shape.symbols());
+    let mut card = naive::pack(header, &symbols, 15 + 2 * symbols.len()).unwrap();
+    if random.once_in(10) {
+        match header.hearing {
+            0 => card.insert(0, 1),
+            _ => drop(card.remove(0)),
+        }
+    }
+    mutated(random, card)
 }
 
-/// Unpacks into a buffer of the length that the card announces, if it does, or another.
+/// Unpacks into a buffer of the length that the card announces, if it does, or another. 9 where a card with a hearing
+/// number is accepted.
 fn unpack(random: &mut Random, card: &[u8]) -> usize {
-    let announced = naive::card::take_shape(&mut &card[..]).ok();
-    let length = match announced {
-        Some(shape) if shape.n <= 14 && shape.layers <= 15 && !random.once_in(20) => shape.symbols(),
+    let leading = usize::from(starts_with_1(card));
+    let length = match naive::card::take_shape(&mut &card[leading..]) {
+        Ok(shape) if shape.n <= 14 && shape.layers <= 15 && !random.once_in(20) => shape.symbols(),
         _ => random.below(100),
     };
-    let number = compare::unpack(random, card, length, 5);
+    let number = compare::unpack(random, card, length, 6);
     if number == 0 {
         assert_packs_again(card, length);
+        return 9 * leading;
     }
     number
 }
@@ -104,13 +113,59 @@ fn unpack(random: &mut Random, card: &[u8]) -> usize {
 fn assert_packs_again(card: &[u8], length: usize) {
     let mut symbols = vec![0; length];
     let header = hmsr::unpack(card, &mut symbols).unwrap();
-    assert_eq!(header.shape.pack_to_vec(header.node, header.length, &symbols).unwrap(), card);
+    assert_eq!(header.pack_to_vec(&symbols).unwrap(), card);
 }
 
 #[test]
 fn cards() {
-    let tally = fuzz(card, unpack);
-    for number in [0, 1, 2, 4, 5, 6] {
+    let tally = fuzz(card, |random, card| unpack(random, card));
+    for number in [0, 1, 2, 4, 5, 6, 9] {
+        assert!(tally[number] > 0, "number {number} never came up");
+    }
+}
+
+/// What a card is packed from, and the length of its buffer.
+#[derive(Debug)]
+struct Contents {
+    header: Header,
+    symbols: Vec<u16>,
+    card_length: usize,
+}
+
+fn contents(random: &mut Random) -> Contents {
+    let mut header = random.small_header();
+    let mut symbols = random.symbols(header.shape.symbols());
+    let mut card_length = 15 + 2 * symbols.len();
+    match random.below(12) {
+        0 => random.spoil_shape(&mut header.shape),
+        1 => header.node = random.hostile(header.node),
+        2 => header.length = random.hostile(header.length),
+        3 => header.hearing = random.hostile(header.hearing),
+        4 => header.hearing = random.no_hearing(),
+        5 => random.spoil_length(&mut card_length),
+        6 => random.spoil_symbols(&mut symbols),
+        _ => {}
+    }
+    Contents { header, symbols, card_length }
+}
+
+/// What was packed unpacks to header and symbols again. 9 where a card with a hearing number is made.
+fn pack(random: &mut Random, contents: &Contents) -> usize {
+    let Contents { header, symbols, card_length } = contents;
+    let number = compare::pack(random, *header, symbols, *card_length);
+    if number == 0 {
+        let header = compare::library_header(*header);
+        let card = header.pack_to_vec(symbols).unwrap();
+        assert_eq!(hmsr::unpack_to_vec(&card), Ok((header, symbols.clone())));
+        return 9 * header.hearing.min(1);
+    }
+    number
+}
+
+#[test]
+fn packed() {
+    let tally = fuzz(contents, pack);
+    for number in [0, 1, 2, 4, 5, 6, 9] {
         assert!(tally[number] > 0, "number {number} never came up");
     }
 }

@@ -27,6 +27,7 @@ fn printed_by(compiler: &str, standard: &str, language: &str) -> String {
 fn assert_header(output: &str) {
     let mut lines = output.lines();
     assert_constants(&mut lines);
+    assert_cards(&mut lines);
     for number in numbers() {
         assert_eq!(lines.next(), Some(text(number).as_str()), "the text of {number}");
     }
@@ -49,7 +50,18 @@ fn assert_constants(lines: &mut Lines) {
     for (cause, number) in Refusal::ALL.into_iter().zip(1..) {
         assert_eq!(lines.next(), Some(format!("{cause:?} {number}").as_str()));
     }
-    assert_eq!(lines.next(), Some(format!("5 {}", hmsr::PLAN_TEXT).as_str()));
+    assert_eq!(lines.next(), Some(format!("6 {}", hmsr::PLAN_TEXT).as_str()));
+}
+
+/// What packing document 01's card gives with no hearing number, with 700, with 1 000 000 and with the largest number, and
+/// the header of each card that was made.
+fn assert_cards(lines: &mut Lines) {
+    assert_eq!(lines.next(), Some("271: 3 1 1 1 2 253 1 247 1 0 0 0 0 0 0"));
+    assert_eq!(lines.next(), Some("0: 3 1 1 1 2 0"));
+    assert_eq!(lines.next(), Some("274: 1 3 1 1 1 2 188 5 253 1 247 1 0 0 0 0 0 0"));
+    assert_eq!(lines.next(), Some("0: 3 1 1 1 2 700"));
+    assert_eq!(lines.next(), Some("6:"));
+    assert_eq!(lines.next(), Some("6:"));
 }
 
 /// What the header says of a number.

@@ -1,9 +1,10 @@
 //! Every cause of every call, alone and with each other cause: the number of the one that document 01 judges first, and
-//! every lent buffer as it was. The numbers here are written out from document 01.
+//! every lent buffer as it was. The numbers here are written out from document 01, and from document 02 §9 for hearing
+//! numbers.
 
 mod naive;
 
-use hmsr::{Checked, Refusal, Repair, Shape};
+use hmsr::{Checked, Header, Refusal, Repair, Shape};
 use naive::lent::Lent;
 use naive::random::{codeword_of, Random};
 
@@ -23,6 +24,7 @@ struct Input {
     new: usize,
     node: usize,
     length: usize,
+    hearing: usize,
     transcript: Vec<u8>,
     symbols: Vec<u16>,
     received: Vec<u16>,
@@ -47,6 +49,7 @@ fn accepted(symbols: Vec<u16>, lent: usize) -> Input {
         new: 4,
         node: 5,
         length: 5,
+        hearing: 0,
         transcript: vec![7; 5],
         symbols,
         received: Vec::new(),
@@ -368,43 +371,57 @@ fn repair() {
     });
 }
 
-/// "Packing judges shape, node, length against k × N (6), buffer sizes, symbols."
-#[test]
-fn pack() {
-    let node: &[Cause] = &[
+/// "Packing judges shape, node, length against k × N (6), buffer sizes, symbols"; a hearing number above 999,999 is 6,
+/// "judged after the length" (document 02 §9).
+fn pack_causes() -> Vec<Cause> {
+    let header: &[Cause] = &[
         ("node is n", 2, |i| i.node = 6),
         ("node is 2^32 + 5", 2, |i| i.node = (1 << 32) + 5),
         ("node is the largest number", 2, |i| i.node = usize::MAX),
-    ];
-    let length: &[Cause] = &[
         ("length above k × N", 6, |i| i.length = CAPACITY + 1),
         ("length is 2^32 + 5", 6, |i| i.length = (1 << 32) + 5),
         ("length is the largest number", 6, |i| i.length = usize::MAX),
+        ("hearing is 1 000 000", 6, |i| i.hearing = 1_000_000),
+        ("hearing is 2^32 + 7", 6, |i| i.hearing = (1 << 32) + 7),
+        ("hearing is the largest number", 6, |i| i.hearing = usize::MAX),
     ];
-    let input = accepted(vec![256; N], 15 + 2 * N);
-    let causes = [SHAPE, node, length, SYMBOLS_LENGTH, LENT_LENGTH, SYMBOLS].concat();
-    try_causes(input, &causes, |i| {
-        let mut card = Lent::bytes(&mut Random::new(1), i.lent);
-        let answer = i.shape.pack(i.node, i.length, &i.symbols, card.slice());
-        if answer.is_err() {
-            card.assert_holds(&[]);
-        }
-        answer.err().map_or(0, Refusal::number)
-    });
+    [SHAPE, header, SYMBOLS_LENGTH, LENT_LENGTH, SYMBOLS].concat()
 }
 
-/// A card or the plan's input: each number's bytes, and bytes behind them; the lengths of the lent buffers.
+#[test]
+fn pack() {
+    for hearing in [0, 1, 999_999] {
+        let input = Input { hearing, ..accepted(vec![256; N], 15 + 2 * N) };
+        try_causes(input, &pack_causes(), |i| {
+            let mut card = Lent::bytes(&mut Random::new(1), i.lent);
+            let header = Header { shape: i.shape, node: i.node, length: i.length, hearing: i.hearing };
+            let answer = header.pack(&i.symbols, card.slice());
+            if answer.is_err() {
+                card.assert_holds(&[]);
+            }
+            answer.err().map_or(0, Refusal::number)
+        });
+    }
+}
+
+/// A card: the bytes of each number, and bytes behind them; the lengths of the lent buffers.
 #[derive(Clone, PartialEq)]
-struct Numbers {
-    numbers: Vec<Vec<u8>>,
+struct Card {
+    /// The leading 1 and the hearing number, or nothing.
+    leading: Vec<u8>,
+    hearing: Vec<u8>,
+    /// n, k, L, node, length.
+    header: [Vec<u8>; 5],
+    symbols: Vec<Vec<u8>>,
     behind: Vec<u8>,
     symbols_length: usize,
     header_length: usize,
 }
 
-impl Numbers {
+impl Card {
     fn bytes(&self) -> Vec<u8> {
-        [self.numbers.concat(), self.behind.clone()].concat()
+        let header = self.header.concat();
+        [&self.leading[..], &header, &self.hearing, &self.symbols.concat(), &self.behind].concat()
     }
 }
 
@@ -414,72 +431,135 @@ const NOT_SHORTEST_OF_THREE: &[u8] = &[129, 129, 0];
 const FOUR_GROUPS: &[u8] = &[128, 128, 128, 1];
 const FIVE_GROUPS: &[u8] = &[129, 129, 129, 129, 1];
 
-/// "Unpacking judges in this order: the five numbers' form (6), the shape, the node, the length against k × N (6), the
-/// size of the lent buffer, each symbol's form (6) then value (5) in turn, bytes left over (6)."
-const CARD: &[Cause<Numbers>] = &[
-    ("n not in shortest form", 6, |c| c.numbers[0] = NOT_SHORTEST.to_vec()),
-    ("k of five groups", 6, |c| c.numbers[1] = FIVE_GROUPS.to_vec()),
-    ("L not in shortest form", 6, |c| c.numbers[2] = NOT_SHORTEST_OF_THREE.to_vec()),
-    ("node of five groups", 6, |c| c.numbers[3] = FIVE_GROUPS.to_vec()),
-    ("length not in shortest form", 6, |c| c.numbers[4] = NOT_SHORTEST.to_vec()),
-    ("n is 2", 1, |c| c.numbers[0] = vec![2]),
-    ("n is 15", 1, |c| c.numbers[0] = vec![15]),
-    ("n is 2^21 - 1", 1, |c| c.numbers[0] = vec![255, 255, 127]),
-    ("k is 0", 1, |c| c.numbers[1] = vec![0]),
-    ("k is n - 1", 1, |c| c.numbers[1] = vec![2]),
-    ("k of four groups", 1, |c| c.numbers[1] = FOUR_GROUPS.to_vec()),
-    ("L is 0", 1, |c| c.numbers[2] = vec![0]),
-    ("L is 16", 1, |c| c.numbers[2] = vec![16]),
-    ("node is n", 2, |c| c.numbers[3] = vec![3]),
-    ("node is 256", 2, |c| c.numbers[3] = vec![128, 2]),
-    ("node of four groups", 2, |c| c.numbers[3] = FOUR_GROUPS.to_vec()),
-    ("length is k × N + 1", 6, |c| c.numbers[4] = vec![9]),
-    ("length is 2^21 - 1", 6, |c| c.numbers[4] = vec![255, 255, 127]),
-    ("length of four groups", 6, |c| c.numbers[4] = FOUR_GROUPS.to_vec()),
+/// "Unpacking judges in this order: the five numbers' form (6), .."
+const HEADER_FORM: &[Cause<Card>] = &[
+    ("n not in shortest form", 6, |c| c.header[0] = NOT_SHORTEST.to_vec()),
+    ("k of five groups", 6, |c| c.header[1] = FIVE_GROUPS.to_vec()),
+    ("L not in shortest form", 6, |c| c.header[2] = NOT_SHORTEST_OF_THREE.to_vec()),
+    ("node of five groups", 6, |c| c.header[3] = FIVE_GROUPS.to_vec()),
+    ("length not in shortest form", 6, |c| c.header[4] = NOT_SHORTEST.to_vec()),
+];
+
+/// "The form of all header numbers, the hearing number's too, is judged first" (document 02 §9).
+const LEADING_AND_HEARING_FORM: &[Cause<Card>] = &[
+    ("leading 1 not in shortest form", 6, |c| c.leading = vec![129, 0]),
+    ("leading number of five groups", 6, |c| c.leading = FIVE_GROUPS.to_vec()),
+    ("hearing not in shortest form", 6, |c| c.hearing = NOT_SHORTEST.to_vec()),
+    ("hearing not in shortest form of three groups", 6, |c| c.hearing = NOT_SHORTEST_OF_THREE.to_vec()),
+    ("hearing of five groups", 6, |c| c.hearing = FIVE_GROUPS.to_vec()),
+];
+
+/// ".. the shape, the node, the length against k × N (6), .."
+const HEADER_VALUES: &[Cause<Card>] = &[
+    ("n is 2", 1, |c| c.header[0] = vec![2]),
+    ("n is 15", 1, |c| c.header[0] = vec![15]),
+    ("n is 2^21 - 1", 1, |c| c.header[0] = vec![255, 255, 127]),
+    ("k is 0", 1, |c| c.header[1] = vec![0]),
+    ("k is n - 1", 1, |c| c.header[1] = vec![2]),
+    ("k of four groups", 1, |c| c.header[1] = FOUR_GROUPS.to_vec()),
+    ("L is 0", 1, |c| c.header[2] = vec![0]),
+    ("L is 16", 1, |c| c.header[2] = vec![16]),
+    ("node is n", 2, |c| c.header[3] = vec![3]),
+    ("node is 256", 2, |c| c.header[3] = vec![128, 2]),
+    ("node of four groups", 2, |c| c.header[3] = FOUR_GROUPS.to_vec()),
+    ("length is k × N + 1", 6, |c| c.header[4] = vec![9]),
+    ("length is 2^21 - 1", 6, |c| c.header[4] = vec![255, 255, 127]),
+    ("length of four groups", 6, |c| c.header[4] = FOUR_GROUPS.to_vec()),
+];
+
+/// "A leading 1 followed later by hearing 0, or a value above 999,999 in either direction, is 6, judged after the length"
+/// (document 02 §9). Both are 6, so that the length comes first cannot be seen.
+const HEARING: &[Cause<Card>] = &[
+    ("hearing is 0", 6, |c| c.hearing = vec![0]),
+    ("hearing is 1 000 000", 6, |c| c.hearing = vec![192, 132, 61]),
+    ("hearing is 2^21 - 1", 6, |c| c.hearing = vec![255, 255, 127]),
+    ("hearing of four groups", 6, |c| c.hearing = FOUR_GROUPS.to_vec()),
+    ("hearing is 2^28 - 1", 6, |c| c.hearing = vec![255, 255, 255, 127]),
+];
+
+/// ".. the size of the lent buffer, each symbol's form (6) then value (5) in turn, bytes left over (6)."
+const BUFFERS_AND_SYMBOLS: &[Cause<Card>] = &[
     ("symbols' buffer one short", 4, |c| c.symbols_length = 7),
     ("symbols' buffer one long", 4, |c| c.symbols_length = 9),
-    ("header's buffer one short", 4, |c| c.header_length = 4),
-    ("header's buffer one long", 4, |c| c.header_length = 6),
-    ("symbol 0 not in shortest form", 6, |c| c.numbers[5] = NOT_SHORTEST.to_vec()),
-    ("symbol 1 is 257", 5, |c| c.numbers[6] = vec![129, 2]),
-    ("symbol 2 of five groups", 6, |c| c.numbers[7] = FIVE_GROUPS.to_vec()),
-    ("symbol 3 is 65536", 5, |c| c.numbers[8] = vec![128, 128, 4]),
-    ("symbol 4 of four groups", 5, |c| c.numbers[9] = FOUR_GROUPS.to_vec()),
-    ("symbol 5 not in shortest form", 6, |c| c.numbers[10] = NOT_SHORTEST_OF_THREE.to_vec()),
-    ("symbol 6 is 16384", 5, |c| c.numbers[11] = vec![128, 128, 1]),
-    ("symbol 7 cut short", 6, |c| c.numbers[12] = vec![128]),
+    ("header's buffer one short", 4, |c| c.header_length = 5),
+    ("header's buffer one long", 4, |c| c.header_length = 7),
+    ("symbol 0 not in shortest form", 6, |c| c.symbols[0] = NOT_SHORTEST.to_vec()),
+    ("symbol 1 is 257", 5, |c| c.symbols[1] = vec![129, 2]),
+    ("symbol 2 of five groups", 6, |c| c.symbols[2] = FIVE_GROUPS.to_vec()),
+    ("symbol 3 is 65536", 5, |c| c.symbols[3] = vec![128, 128, 4]),
+    ("symbol 4 of four groups", 5, |c| c.symbols[4] = FOUR_GROUPS.to_vec()),
+    ("symbol 5 not in shortest form", 6, |c| c.symbols[5] = NOT_SHORTEST_OF_THREE.to_vec()),
+    ("symbol 6 is 16384", 5, |c| c.symbols[6] = vec![128, 128, 1]),
+    ("symbol 7 cut short", 6, |c| c.symbols[7] = vec![128]),
     ("a byte left over", 6, |c| c.behind = vec![0]),
 ];
 
-fn unpack_number(card: &Numbers) -> usize {
-    let mut symbols = garbage(card.symbols_length);
-    let mut header = Lent::numbers(card.header_length);
-    let answer = hmsr::unpack_into(&card.bytes(), symbols.slice(), header.slice());
+fn unpack_number(bytes: &[u8], symbols_length: usize, header_length: usize) -> usize {
+    let mut symbols = garbage(symbols_length);
+    let mut header = Lent::numbers(header_length);
+    let answer = hmsr::unpack_into(bytes, symbols.slice(), header.slice());
     if answer.is_err() {
         header.assert_holds(&[]);
     }
     judged(answer, [symbols])
 }
 
+fn card_number(card: &Card) -> usize {
+    unpack_number(&card.bytes(), card.symbols_length, card.header_length)
+}
+
 /// Document 01's card for node 1 of its first archive.
-fn sample_card() -> Numbers {
-    let front = [3, 1, 1, 1, 2].map(|number| vec![number]);
-    let symbols = [vec![253, 1], vec![247, 1]].into_iter().chain(vec![vec![0]; 6]);
-    let numbers = front.into_iter().chain(symbols).collect();
-    Numbers { numbers, behind: vec![], symbols_length: 8, header_length: 5 }
+fn sample_card() -> Card {
+    let symbols = [vec![253, 1], vec![247, 1]].into_iter().chain(vec![vec![0]; 6]).collect();
+    Card {
+        leading: vec![],
+        hearing: vec![],
+        header: [3, 1, 1, 1, 2].map(|number| vec![number]),
+        symbols,
+        behind: vec![],
+        symbols_length: 8,
+        header_length: 6,
+    }
+}
+
+/// The same with hearing number 700.
+fn hearing_card() -> Card {
+    Card { leading: vec![1], hearing: vec![188, 5], ..sample_card() }
 }
 
 #[test]
 fn unpack() {
-    try_causes(sample_card(), CARD, unpack_number);
+    let causes = [HEADER_FORM, HEADER_VALUES, BUFFERS_AND_SYMBOLS].concat();
+    try_causes(sample_card(), &causes, card_number);
+}
+
+#[test]
+fn unpack_with_a_hearing_number() {
+    let forms = [LEADING_AND_HEARING_FORM, HEADER_FORM].concat();
+    let causes = [&forms, HEADER_VALUES, HEARING, BUFFERS_AND_SYMBOLS].concat();
+    try_causes(hearing_card(), &causes, card_number);
 }
 
 #[test]
 fn every_cut_card_is_refused() {
-    let whole = sample_card().bytes();
-    for length in 0..whole.len() {
-        let cut = Numbers { numbers: vec![whole[..length].to_vec()], ..sample_card() };
-        assert_eq!(unpack_number(&cut), 6, "cut to {length} bytes");
+    for whole in [sample_card().bytes(), hearing_card().bytes()] {
+        assert_eq!(unpack_number(&whole, 8, 6), 0);
+        for length in 0..whole.len() {
+            assert_eq!(unpack_number(&whole[..length], 8, 6), 6, "cut to {length} bytes");
+        }
+    }
+}
+
+/// The plan's input: each number's bytes, and bytes behind them.
+#[derive(Clone, PartialEq)]
+struct Numbers {
+    numbers: Vec<Vec<u8>>,
+    behind: Vec<u8>,
+}
+
+impl Numbers {
+    fn bytes(&self) -> Vec<u8> {
+        [self.numbers.concat(), self.behind.clone()].concat()
     }
 }
 
@@ -522,7 +602,7 @@ const PLAN: &[Cause<Numbers>] = &[
 /// n = 6, k = 2, L = 3, nodes 1 and 4 dead, helpers 0, 2 and 5.
 fn accepted_plan() -> Numbers {
     let numbers = [6, 2, 3, 2, 1, 4, 0, 2, 5].map(|number| vec![number]).to_vec();
-    Numbers { numbers, behind: vec![], symbols_length: 0, header_length: 0 }
+    Numbers { numbers, behind: vec![] }
 }
 
 /// The number that is the plan's only line; 0 where there are more.

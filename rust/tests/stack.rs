@@ -104,12 +104,14 @@ fn packed_and_unpacked() {
     for shape in SHAPES {
         let archive = Archive::write(shape);
         let (node, length) = (shape.nodes - 1, archive.transcript.len());
-        let mut card = vec![170; shape.card_room().unwrap()];
-        let end = with_little_stack("pack", || shape.pack(node, length, archive.node(node), &mut card));
-        let mut symbols = vec![7; shape.node_symbols().unwrap()];
-        let header = with_little_stack("unpack", || unpack(&card[..end], &mut symbols));
-        assert_eq!(header, Header { shape, node, length });
-        assert!(symbols == archive.node(node));
+        for hearing in [0, 999_999] {
+            let header = Header { shape, node, length, hearing };
+            let mut card = vec![170; shape.card_room().unwrap()];
+            let end = with_little_stack("pack", || header.pack(archive.node(node), &mut card));
+            let mut symbols = vec![7; shape.node_symbols().unwrap()];
+            assert_eq!(with_little_stack("unpack", || unpack(&card[..end], &mut symbols)), header);
+            assert!(symbols == archive.node(node));
+        }
     }
 }
 

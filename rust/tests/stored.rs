@@ -1,4 +1,4 @@
-//! The cases whose outcome the programs of `tests/` work out from documents 01 and 02 (§7) alone, run through the
+//! The cases whose outcome the programs of `tests/` work out from documents 01 and 02 (§7, §9) alone, run through the
 //! library: each line of a stored file has to come out as it stands there.
 
 mod stored {

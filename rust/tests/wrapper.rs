@@ -6,9 +6,12 @@ use hmsr::{
 
 /// Document 01's first archive: n = 3, k = 1, L = 1, bytes 3 6.
 const SHAPE: Shape = Shape { nodes: 3, data: 1, layers: 1 };
-/// Its card for node 1.
+/// Its card for node 1, and the same with hearing number 700 (document 02 §9).
 const CARD: [u8; 15] = [3, 1, 1, 1, 2, 253, 1, 247, 1, 0, 0, 0, 0, 0, 0];
+const HEARING_CARD: [u8; 18] = [1, 3, 1, 1, 1, 2, 188, 5, 253, 1, 247, 1, 0, 0, 0, 0, 0, 0];
 const NODE_1: [u16; 8] = [253, 247, 0, 0, 0, 0, 0, 0];
+const HEADER: Header = Header { shape: SHAPE, node: 1, length: 2, hearing: 0 };
+const HEARING_HEADER: Header = Header { hearing: 700, ..HEADER };
 
 /// Numbers at and far beyond every range.
 const NUMBERS: [usize; 12] = [0, 1, 2, 3, 14, 15, 16, 17, 63, 64, usize::MAX / 2 + 1, usize::MAX];
@@ -25,29 +28,38 @@ fn within_ranges(shape: Shape) -> bool {
 }
 
 #[test]
-fn a_header_buffer_has_five_numbers() {
-    for length in 0..12 {
-        let mut symbols = [9; 8];
-        let mut header = vec![7; length];
-        let answer = unpack_into(&CARD, &mut symbols, &mut header);
-        if length == 5 {
-            assert_eq!(answer, Ok(()));
-            assert_eq!((header, symbols), (vec![3, 1, 1, 1, 2], NODE_1));
-        } else {
-            assert_eq!(answer, Err(Refusal::WrongLength), "length {length}");
-            assert_eq!((header, symbols), (vec![7; length], [9; 8]));
+fn a_header_buffer_has_six_numbers() {
+    for (card, hearing) in [(&CARD[..], 0), (&HEARING_CARD, 700)] {
+        for length in 0..12 {
+            let mut symbols = [9; 8];
+            let mut header = vec![7; length];
+            let answer = unpack_into(card, &mut symbols, &mut header);
+            if length == 6 {
+                assert_eq!(answer, Ok(()));
+                assert_eq!((header, symbols), (vec![3, 1, 1, 1, 2, hearing], NODE_1));
+            } else {
+                assert_eq!(answer, Err(Refusal::WrongLength), "length {length}");
+                assert_eq!((header, symbols), (vec![7; length], [9; 8]));
+            }
         }
     }
 }
 
 #[test]
 fn a_bad_header_buffer_comes_after_a_bad_header_and_before_a_bad_symbol() {
-    let answers = |card: &[u8]| unpack_into(card, &mut [0; 8], &mut [0; 4]);
-    assert_eq!(answers(&[3, 1, 1, 1]), Err(Refusal::Malformed));
-    assert_eq!(answers(&[2, 1, 1, 1, 2]), Err(Refusal::BadShape));
-    assert_eq!(answers(&[3, 1, 1, 3, 2]), Err(Refusal::BadNodes));
-    assert_eq!(answers(&[3, 1, 1, 1, 9]), Err(Refusal::Malformed));
-    assert_eq!(answers(&[3, 1, 1, 1, 2, 129, 2]), Err(Refusal::WrongLength));
+    for length in [4, 5] {
+        let answers = |card: &[u8]| unpack_into(card, &mut [0; 8], &mut vec![0; length]);
+        assert_eq!(answers(&[3, 1, 1, 1]), Err(Refusal::Malformed));
+        assert_eq!(answers(&[2, 1, 1, 1, 2]), Err(Refusal::BadShape));
+        assert_eq!(answers(&[3, 1, 1, 3, 2]), Err(Refusal::BadNodes));
+        assert_eq!(answers(&[3, 1, 1, 1, 9]), Err(Refusal::Malformed));
+        assert_eq!(answers(&[3, 1, 1, 1, 2, 129, 2]), Err(Refusal::WrongLength));
+        assert_eq!(answers(&[1, 2, 1, 1, 1, 2, 128]), Err(Refusal::Malformed));
+        assert_eq!(answers(&[1, 2, 1, 1, 1, 2, 0]), Err(Refusal::BadShape));
+        assert_eq!(answers(&[1, 3, 1, 1, 3, 2, 0]), Err(Refusal::BadNodes));
+        assert_eq!(answers(&[1, 3, 1, 1, 1, 2, 0]), Err(Refusal::Malformed));
+        assert_eq!(answers(&[1, 3, 1, 1, 1, 2, 7, 129, 2]), Err(Refusal::WrongLength));
+    }
 }
 
 #[test]
@@ -62,8 +74,10 @@ fn empty_buffers_are_refused_for_their_length() {
     assert_eq!(repair.first_step(0, &[], &mut [], &mut []), wrong);
     assert_eq!(repair.second_step(0, &[], &[], &mut []), wrong);
     assert_eq!(repair.repair(&mut [], &mut []), wrong);
-    assert_eq!(SHAPE.pack(0, 0, &[], &mut []), Err(Refusal::WrongLength));
+    assert_eq!(HEADER.pack(&[], &mut []), Err(Refusal::WrongLength));
+    assert_eq!(HEARING_HEADER.pack(&[], &mut []), Err(Refusal::WrongLength));
     assert_eq!(unpack(&CARD, &mut []), Err(Refusal::WrongLength));
+    assert_eq!(unpack(&HEARING_CARD, &mut []), Err(Refusal::WrongLength));
     assert_eq!(unpack(&[], &mut []), Err(Refusal::Malformed));
     assert_eq!(plan(&[], &mut []), Err(Refusal::WrongLength));
     assert_eq!(plan_text(&[]), b"6\n");
@@ -102,7 +116,9 @@ fn every_call_judges_every_shape() {
         judged(repair.first_step(0, &[0; 3], &mut [0; 3], &mut [0; 3]));
         judged(repair.second_step(0, &[0; 3], &[0; 3], &mut [0; 3]));
         judged(repair.repair(&mut [0; 3], &mut [0; 3]));
-        judged(shape.pack(0, 0, &[0; 3], &mut [0; 3]).map(drop));
+        for hearing in [0, 700, usize::MAX] {
+            judged(Header { shape, node: 0, length: 0, hearing }.pack(&[0; 3], &mut [0; 3]).map(drop));
+        }
     }
 }
 
@@ -123,7 +139,8 @@ fn conveniences_and_sizes_judge_every_shape() {
         judged(repair.first_step_to_vec(0, &[0; 3]).map(drop));
         judged(repair.second_step_to_vec(0, &[0; 3], &[0; 3]).map(drop));
         judged(repair.repair_nodes(&mut [0; 3]).map(drop));
-        judged(shape.pack_to_vec(usize::MAX, usize::MAX, &[0; 3]).map(drop));
+        let far = Header { shape, node: usize::MAX, length: usize::MAX, hearing: usize::MAX };
+        judged(far.pack_to_vec(&[0; 3]).map(drop));
         for dead_count in NUMBERS {
             judged(shape.batch_layers(dead_count).map(drop));
             judged(shape.message_symbols(dead_count).map(drop));
@@ -241,27 +258,54 @@ fn the_high_data_symbol_is_taken_apart() {
 
 #[test]
 fn a_card_is_unpacked_as_it_was_packed() {
-    assert_eq!(SHAPE.pack_to_vec(1, 2, &NODE_1), Ok(CARD.to_vec()));
-    let header = Header { shape: SHAPE, node: 1, length: 2 };
-    assert_eq!(unpack_to_vec(&CARD), Ok((header, NODE_1.to_vec())));
-    // The largest card that a reader of three groups took, and the largest of all, whose length has four.
-    for (n, room, length) in [(12, 122_887, 614_400), (14, 491_528, 2_949_120)] {
-        let largest = Shape::new(n, n - 2, 15).unwrap();
-        let symbols = vec![256; largest.node_symbols().unwrap()];
-        let card = largest.pack_to_vec(n - 1, length, &symbols).unwrap();
-        assert_eq!(card.len(), room);
-        assert_eq!(unpack_to_vec(&card), Ok((Header { shape: largest, node: n - 1, length }, symbols)));
+    for (header, card) in [(HEADER, &CARD[..]), (HEARING_HEADER, &HEARING_CARD)] {
+        assert_eq!(header.pack_to_vec(&NODE_1), Ok(card.to_vec()));
+        assert_eq!(unpack_to_vec(card), Ok((header, NODE_1.to_vec())));
+    }
+    // The largest card that a reader of three groups took, and the largest, whose length has four; without a hearing
+    // number and with the largest, a leading 1 and three groups.
+    for (n, size, length) in [(12, 122_887, 614_400), (14, 491_528, 2_949_120)] {
+        for (hearing, more) in [(0, 0), (999_999, 4)] {
+            let largest = Header { shape: Shape::new(n, n - 2, 15).unwrap(), node: n - 1, length, hearing };
+            let symbols = vec![256; largest.shape.node_symbols().unwrap()];
+            let card = largest.pack_to_vec(&symbols).unwrap();
+            assert_eq!(card.len(), size + more);
+            assert_eq!(unpack_to_vec(&card), Ok((largest, symbols)));
+        }
+    }
+}
+
+#[test]
+fn a_hearing_number_is_at_most_999_999() {
+    for hearing in [0, 1, 127, 128, 16_383, 16_384, 999_999] {
+        let header = Header { hearing, ..HEADER };
+        let card = header.pack_to_vec(&NODE_1).unwrap();
+        assert_eq!(unpack_to_vec(&card), Ok((header, NODE_1.to_vec())));
+    }
+    for hearing in [1_000_000, (1 << 32) + 700, usize::MAX] {
+        assert_eq!(Header { hearing, ..HEADER }.pack_to_vec(&NODE_1), Err(Refusal::Malformed));
+    }
+    // 0 behind a leading 1, 1 000 000, and the largest numbers of three and of four groups.
+    for hearing in [&[0][..], &[192, 132, 61], &[255, 255, 127], &[255, 255, 255, 127]] {
+        let card = [&[1], &CARD[..5], hearing, &CARD[5..]].concat();
+        assert_eq!(unpack_to_vec(&card), Err(Refusal::Malformed), "hearing {hearing:?}");
     }
 }
 
 #[test]
 fn cut_lengthened_and_huge_cards_are_refused() {
-    for cut in 0..CARD.len() {
-        assert_eq!(unpack_to_vec(&CARD[..cut]), Err(Refusal::Malformed), "cut at {cut}");
+    for card in [&CARD[..], &HEARING_CARD] {
+        for cut in 0..card.len() {
+            assert_eq!(unpack_to_vec(&card[..cut]), Err(Refusal::Malformed), "cut at {cut}");
+        }
+        assert_eq!(unpack_to_vec(&[card, &[0]].concat()), Err(Refusal::Malformed));
     }
-    assert_eq!(unpack_to_vec(&[&CARD[..], &[0]].concat()), Err(Refusal::Malformed));
     // Headers that announce the most symbols, or more than there can be, with none behind them.
     assert_eq!(unpack_to_vec(&[14, 12, 15, 13, 0]), Err(Refusal::Malformed));
+    assert_eq!(unpack_to_vec(&[1, 14, 12, 15, 13, 0, 1]), Err(Refusal::Malformed));
+    assert_eq!(unpack_to_vec(&[1, 127, 1, 127, 0, 0, 1]), Err(Refusal::BadShape));
+    // No archive has 1 node: a second 1 is no shape.
+    assert_eq!(unpack_to_vec(&[1, 1, 3, 1, 1, 1, 2]), Err(Refusal::BadShape));
     assert_eq!(unpack_to_vec(&[127, 1, 127, 0, 0]), Err(Refusal::BadShape));
     assert_eq!(unpack_to_vec(&[255, 255, 255, 127, 1, 1, 0, 0]), Err(Refusal::BadShape));
     assert_eq!(unpack_to_vec(&[255, 255, 255, 255, 127, 1, 1, 0, 0]), Err(Refusal::Malformed));
@@ -271,15 +315,19 @@ fn cut_lengthened_and_huge_cards_are_refused() {
 
 #[test]
 fn every_byte_of_a_card_may_be_anything() {
-    for place in 0..CARD.len() {
-        for byte in 0..=255 {
-            let mut card = CARD;
-            card[place] = byte;
-            if let Ok((header, symbols)) = unpack_to_vec(&card) {
-                let packed = header.shape.pack_to_vec(header.node, header.length, &symbols);
-                assert_eq!(packed, Ok(card.to_vec()));
+    for sample in [&CARD[..], &HEARING_CARD] {
+        let mut accepted = 0;
+        for place in 0..sample.len() {
+            for byte in 0..=255 {
+                let mut card = sample.to_vec();
+                card[place] = byte;
+                if let Ok((header, symbols)) = unpack_to_vec(&card) {
+                    assert_eq!(header.pack_to_vec(&symbols), Ok(card));
+                    accepted += 1;
+                }
             }
         }
+        assert!(accepted > 1000, "{accepted} were accepted");
     }
 }
 

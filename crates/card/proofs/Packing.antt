@@ -24,6 +24,16 @@ use Rattle.card.proofs.Cards.{header-small, card-parts, card-fits}
 abbrev numerals : List ℕ → List ℕ
 numerals vs = flatMap (numeral mostGroups) vs
 
+-- the numbers of a header in the form that its hearing number fixes
+module _ (h : Header) (vs : List ℕ) (same : headerNumbers h ≡ vs) (before : List ℕ) where
+  pub form-fits : (all (below (groupValues ^ mostGroups)) (headerNumbers h) ≡ true) × (length (numerals (headerNumbers h)) ≤ length before)
+      → (all (below (groupValues ^ mostGroups)) vs ≡ true) × (0 + length (numerals vs) ≤ length before)
+  form-fits w = rw (← same) (w .0, omega (arith, w .1))
+
+  pub form-written : (end : ℕ) (after : List ℕ) → (end ≡ 0 + length (numerals vs)) × (after ≡ sets before 0 (numerals vs))
+      → (end ≡ length (numerals (headerNumbers h))) × (after ≡ sets before 0 (numerals (headerNumbers h)))
+  form-written end after w = rw same (omega (arith, w .0), w .1)
+
 module _ (h : Header) (symbols before : List ℕ) where
   pub packs-refused : (cause : Refusal) → numberOf cause ≡ packRefusal symbolValues h symbols (length before) → Packs h symbols before before (Refused cause)
   packs-refused cause e = record { number = e; returned = sym (afterwards-refused [] _ cause _ e); buffer = sym (afterwards-refused before _ cause _ e) }
@@ -39,11 +49,11 @@ module _ (h : Header) (symbols before : List ℕ) where
           ap length (card-parts h symbols) ∙ length-append (numerals (headerNumbers h)) (numerals symbols),
         )
 
-    pub header-fits : (all (below (groupValues ^ mostGroups)) (headerNumbers h) ≡ true) × (0 + length (numerals (headerNumbers h)) ≤ length before)
-    header-fits = (header-small h (pack-accepted symbolValues h symbols (length before) taken .headed), omega (arith, fits))
+    pub header-fits : (all (below (groupValues ^ mostGroups)) (headerNumbers h) ≡ true) × (length (numerals (headerNumbers h)) ≤ length before)
+    header-fits = (header-small 0 h (length symbols) (pack-accepted symbolValues h symbols (length before) taken .headed), omega (arith, fits))
 
     -- the header's numbers are written
-    module _ (at : ℕ) (half : List ℕ) (behind : at ≡ 0 + length (numerals (headerNumbers h))) (head : half ≡ sets before 0 (numerals (headerNumbers h))) where
+    module _ (at : ℕ) (half : List ℕ) (behind : at ≡ length (numerals (headerNumbers h))) (head : half ≡ sets before 0 (numerals (headerNumbers h))) where
       pub symbols-fit : at + length (numerals symbols) ≤ length half
       symbols-fit = omega (arith, fits, ap length head ∙ length-sets before 0 (numerals (headerNumbers h)))
 
@@ -55,7 +65,7 @@ module _ (h : Header) (symbols before : List ℕ) where
           let both = ap length parts ∙ length-append (numerals (headerNumbers h)) (numerals symbols) in
           let short : long ≡ length (cardBytes h symbols) = omega arith in
           let whole : sets before 0 (cardBytes h symbols) ≡ after =
-          ap (sets before 0) parts ∙ sets-append (numerals (headerNumbers h)) (numerals symbols) before 0 ∙ rw (← behind, ← head) (sym d) in
+          ap (sets before 0) parts ∙ sets-append (numerals (headerNumbers h)) (numerals symbols) before 0 ∙ rw (← (let b : at ≡ 0 + length (numerals (headerNumbers h)) = omega arith in b), ← head) (sym d) in
           record {
             number = sym taken;
             returned = ap (λ n. n ∷ []) short ∙ sym (afterwards-done [] _ _ taken);

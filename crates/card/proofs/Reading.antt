@@ -1,4 +1,4 @@
--- Reading by places: the five numbers of a header one after the other, and the symbols behind them, by what stands at the place.
+-- Reading by places: the numbers of a header one after the other, and the symbols behind them, by what stands at the place.
 use mathlib.Core.Path.{_≡_, refl, sym, ap, _∙_}
 use mathlib.Core.Logic.{_⊎_, inl, inr}
 use mathlib.Core.Bool.{Bool, true, false, cond}
@@ -8,14 +8,15 @@ use native.Mathlib.Omega.{arith}
 use borrow.Author.Tests.{lt-ltb, le-ltb}
 use lib.Dec.{ltb}
 use lib.ListN.{length, drop, drop-of-length-le, length-drop}
+use lib.Seq.{drop-length}
 use Rattle.lists.proofs.Tests.{below-or-not}
 use Rattle.lists.proofs.Scans.{drop-next}
 use Rattle.shape.specs.declared.Refusal.the-variants as refusal
 use Rattle.card.specs.declared.Front.the-variants as front
 use Rattle.numbers.specs.declared.Number.the-variants.{Read, Malformed}
 use Rattle.numbers.specs.Numbers.{mostGroups, Found, value, malformed, readNumber, Numbers, values, broken, andThen, thenNumbers, numberAt, readNumbers, numbersBy}
-use Rattle.card.specs.Cards.{headerOf, headerCount, Symbols, bad, got, symbolsNumber, symbolsRead, andSymbol, atEnd, thenSymbols, readSymbols, symbolsBy, frontOf}
-use Rattle.numbers.proofs.Places.{number-bad, number-read, number-inside}
+use Rattle.card.specs.Cards.{Symbols, bad, got, symbolsNumber, symbolsRead, andSymbol, atEnd, thenSymbols, readSymbols, symbolsBy}
+use Rattle.numbers.proofs.Places.{number-bad, number-read, number-inside, read-behind}
 
 -- ---- the header
 
@@ -39,40 +40,74 @@ unfolding ahead andThen
 ahead-values [] rest = refl
 ahead-values (x ∷ xs) rest = ap (andThen x) (ahead-values xs rest)
 
--- some numbers of the header were read, the next is at `at`, and `left` are left
-pub record Begun (bytes : List ℕ) (left at : ℕ) : Type 0 where
+pub ahead-append : (xs ys : List ℕ) (n : Numbers) → ahead xs (ahead ys n) ≡ ahead (xs ++ ys) n
+unfolding ahead
+ahead-append [] ys n = refl
+ahead-append (x ∷ xs) ys n = ap (andThen x) (ahead-append xs ys n)
+
+-- of some numbers that are to be read the first were read, the next is at `at`, and `left` are left
+pub record Begun (all : Numbers) (bytes : List ℕ) (left at : ℕ) : Type 0 where
   pub numbers : List ℕ
-  pub whole : readNumbers headerCount bytes ≡ ahead numbers (readNumbers left (drop at bytes))
+  pub whole : all ≡ ahead numbers (readNumbers left (drop at bytes))
   pub inside : at ≤ length bytes
 
 pub ahead-none : (n : Numbers) → n ≡ ahead [] n
 unfolding ahead
 ahead-none n = refl
 
-abbrev pub begun : (bytes : List ℕ) → Begun bytes headerCount 0
-begun bytes = record { numbers = []; whole = ahead-none (readNumbers headerCount bytes); inside = omega arith }
+abbrev pub begun : (bytes : List ℕ) (count start : ℕ) → start ≤ length bytes → Begun (readNumbers count (drop start bytes)) bytes count start
+begun bytes count start l = record { numbers = []; whole = ahead-none (readNumbers count (drop start bytes)); inside = l }
 
-module _ {bytes : List ℕ} {left at : ℕ} (b : Begun bytes (suc left) at) where
+module _ {all : Numbers} {bytes : List ℕ} {left at : ℕ} (b : Begun all bytes (suc left) at) where
   pub begun-step : (v next : ℕ) → numberAt mostGroups bytes at ≡ Read v next → readNumbers (suc left) (drop at bytes) ≡ andThen v (readNumbers left (drop next bytes))
   unfolding numbersBy thenNumbers
   begun-step v next e = rw (number-read mostGroups bytes at v next e)
 
-  abbrev pub begun-next : {v next : ℕ} → numberAt mostGroups bytes at ≡ Read v next → Begun bytes left next
+  abbrev pub begun-next : {v next : ℕ} → numberAt mostGroups bytes at ≡ Read v next → Begun all bytes left next
   begun-next {v} {next} e = record {
     numbers = b .numbers ++ v ∷ [];
     whole = b .whole ∙ ap (ahead (b .numbers)) (begun-step v next e) ∙ ahead-one (b .numbers) v (readNumbers left (drop next bytes));
     inside = number-inside mostGroups bytes at v next e;
   }
 
-  pub begun-bad : numberAt mostGroups bytes at ≡ Malformed → front.Refused refusal.Malformed ≡ frontOf (length bytes) (readNumbers headerCount bytes)
-  unfolding frontOf numbersBy thenNumbers
-  begun-bad e = sym (ap (frontOf (length bytes)) (b .whole ∙ ap (λ f. ahead (b .numbers) (thenNumbers f (readNumbers left))) (number-bad mostGroups bytes at e) ∙ ahead-broken (b .numbers)))
+  pub begun-bad : numberAt mostGroups bytes at ≡ Malformed → all ≡ broken
+  unfolding numbersBy thenNumbers
+  begun-bad e = b .whole ∙ ap (λ f. ahead (b .numbers) (thenNumbers f (readNumbers left))) (number-bad mostGroups bytes at e) ∙ ahead-broken (b .numbers)
 
-pub begun-end : (bytes : List ℕ) (at : ℕ) (b : Begun bytes 0 at) → front.Read (headerOf (b .numbers)) at ≡ frontOf (length bytes) (readNumbers headerCount bytes)
-unfolding frontOf numbersBy
-begun-end bytes at b =
-    sym (ap (frontOf (length bytes)) (b .whole ∙ ahead-values (b .numbers) (drop at bytes))
-    ∙ ap (front.Read (headerOf (b .numbers))) (let e : length bytes - length (drop at bytes) ≡ at = omega (arith, length-drop at bytes, b .inside) in e))
+pub begun-end : {all : Numbers} {bytes : List ℕ} {at : ℕ} (b : Begun all bytes 0 at) → all ≡ values (b .numbers) (drop at bytes)
+unfolding numbersBy
+begun-end {all} {bytes} {at} b = b .whole ∙ ahead-values (b .numbers) (drop at bytes)
+
+pub behind : (bytes : List ℕ) (at : ℕ) → at ≤ length bytes → length bytes - length (drop at bytes) ≡ at
+behind bytes at l = omega (arith, length-drop at bytes)
+
+-- bytes from a place on, by how many there are
+by-length : (bytes : List ℕ) (at : ℕ) → drop at bytes ≡ drop (length bytes - length (drop at bytes)) bytes
+by-length bytes at = go (below-or-not at (length bytes))
+  where
+    go : (at < length bytes) ⊎ (length bytes ≤ at) → drop at bytes ≡ drop (length bytes - length (drop at bytes)) bytes
+    go (inl h) = ap (λ k. drop k bytes) (let e : at ≡ length bytes - length (drop at bytes) = omega (arith, length-drop at bytes) in e)
+    go (inr h) =
+        drop-of-length-le bytes h ∙ sym (drop-length bytes)
+        ∙ ap (λ k. drop k bytes) (let e : length bytes ≡ length bytes - length (drop at bytes) = omega (arith, length-drop at bytes) in e)
+
+pub numbers-behind : (count : ℕ) (bytes : List ℕ) (at : ℕ) (vs rest : List ℕ) → readNumbers count (drop at bytes) ≡ values vs rest
+    → rest ≡ drop (length bytes - length rest) bytes
+unfolding numbersBy thenNumbers
+numbers-behind zero bytes at vs rest e = let same : drop at bytes ≡ rest = cc in rw (← same) (by-length bytes at)
+numbers-behind (suc count) bytes at vs rest e = go (readNumber mostGroups (drop at bytes)) refl e (numbers-behind count bytes)
+  where
+    go : (f : Found) → readNumber mostGroups (drop at bytes) ≡ f → thenNumbers f (readNumbers count) ≡ values vs rest
+        → ((at : ℕ) (vs rest : List ℕ) → readNumbers count (drop at bytes) ≡ values vs rest → rest ≡ drop (length bytes - length rest) bytes)
+        → rest ≡ drop (length bytes - length rest) bytes
+    go malformed d q ih = absurd (let z : _≡_ {A = ℕ} 0 1 = cc in omega arith)
+    go (value v r) d q ih = next (readNumbers count r) refl q
+      where
+        next : (n : Numbers) → readNumbers count r ≡ n → andThen v n ≡ values vs rest → rest ≡ drop (length bytes - length rest) bytes
+        next broken d′ q = absurd (unfold andThen in let z : _≡_ {A = ℕ} 0 1 = cc in omega arith)
+        next (values us t) d′ q =
+            let same : t ≡ rest = unfold andThen in cc in
+            rw (← same) (ih (length bytes - length r) us t (ap (readNumbers count) (sym (read-behind mostGroups bytes at v r d)) ∙ d′))
 
 -- ---- the symbols
 

@@ -6,11 +6,11 @@ use Prim.Native.Nat.{ℕ, zero, suc, _≤_}
 use native.Mathlib.Omega.{arith}
 use lib.Dec.{ltb}
 use Rattle.shape.specs.Shape.{size}
-use Rattle.shape.specs.Refusals.{refuse, wrongLength}
 use Rattle.card.specs.declared.Header.{Header}
-use Rattle.numbers.specs.Numbers.{Found, value, malformed, readNumber, Numbers, values, broken, numbersBy}
-use Rattle.card.specs.Cards.{headerOf, headerCount, headerRefusal, Symbols, bad, got, andSymbol, thenSymbols, symbolsBy, refused, card, judged, headerBy, unpackedBy}
-use Rattle.numbers.proofs.Wider.{number-wider, numbers-wider}
+use Rattle.numbers.specs.Numbers.{Found, value, malformed, readNumber, Numbers, values, broken}
+use Rattle.card.specs.Cards.{headerOf, leastHearing, frontBy, headerRefusal, Symbols, bad, got, andSymbol, thenSymbols, symbolsBy, refused, card, judged, headerBy, unpackedBy}
+use Rattle.numbers.proofs.Wider.{number-wider}
+use Rattle.card.proofs.Fronts.{front-wider}
 
 module _ (groups more : ℕ) (h : groups ≤ more) (modulus : ℕ) where
   no-symbols : {number : ℕ} {xs : List ℕ} → bad number ≡ got xs → ⊥
@@ -42,14 +42,14 @@ module _ (groups more : ℕ) (h : groups ≤ more) (modulus : ℕ) where
   pub unpacked-wider : (bytes : List ℕ) (room : ℕ) (header : Header) (symbols : List ℕ) → unpackedBy groups modulus bytes room ≡ card header symbols
       → unpackedBy more modulus bytes room ≡ card header symbols
   unfolding unpackedBy headerBy judged
-  unpacked-wider bytes room header symbols e = go (numbersBy groups headerCount bytes) refl e
+  unpacked-wider bytes room header symbols e = go (frontBy groups bytes) refl e
     where
-      go : (n : Numbers) → numbersBy groups headerCount bytes ≡ n → headerBy groups modulus room n ≡ card header symbols
-          → headerBy more modulus room (numbersBy more headerCount bytes) ≡ card header symbols
+      go : (n : Numbers) → frontBy groups bytes ≡ n → headerBy groups modulus room n ≡ card header symbols
+          → headerBy more modulus room (frontBy more bytes) ≡ card header symbols
       go broken d q = absurd (no-card q)
       go (values xs rest) d q =
-          ap (headerBy more modulus room) (numbers-wider groups more h headerCount bytes xs rest d)
-          ∙ next (headerRefusal (headerOf xs) (refuse (wrongLength room (size (headerOf xs .shape))) 4 0)) (symbolsBy groups modulus (size (headerOf xs .shape)) rest) refl q
+          ap (headerBy more modulus room) (front-wider groups more h bytes xs rest d)
+          ∙ next (headerRefusal (leastHearing xs) (headerOf xs) room 0) (symbolsBy groups modulus (size (headerOf xs .shape)) rest) refl q
         where
           next : (number : ℕ) (found : Symbols) → symbolsBy groups modulus (size (headerOf xs .shape)) rest ≡ found → judged (headerOf xs) number found ≡ card header symbols
               → judged (headerOf xs) number (symbolsBy more modulus (size (headerOf xs .shape)) rest) ≡ card header symbols

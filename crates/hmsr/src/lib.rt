@@ -168,13 +168,19 @@ pub extern "C" fn hmsr_pack(
     layers: usize,
     node: usize,
     len: usize,
+    hearing: usize,
     symbols: &[u16],
     card: &mut [u8],
 ) -> usize
-    ensures { λ r. ⌜ Returned packReturned (Packs (headerFrom n k layers node len) (now (symbols .entry)) (now (card .entry)) (now (card .exit))) r ⌝ }
+    ensures { λ r. ⌜ Returned packReturned (Packs (headerFrom n k layers node len hearing) (now (symbols .entry)) (now (card .entry)) (now (card .exit))) r ⌝ }
 {
     let shape = Shape { n, k, layers };
-    let header = Header { shape, node, len };
+    let header = Header {
+        shape,
+        node,
+        len,
+        hearing,
+    };
     match card::pack(header, symbols, card) {
         Packed::Refused(cause) => number_of(cause),
         Packed::Card(long) => FIRST_FOUND + long,

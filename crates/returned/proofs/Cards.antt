@@ -5,23 +5,22 @@ use Prim.Native.Nat.{ℕ, zero, suc, _+_, _*_, _≤_}
 use native.Mathlib.Decide.{ℕ-discrete}
 use native.Mathlib.Omega.{arith}
 use mathlib.Core.Logic.{_≢_}
-use borrow.Author.Tests.{eqb-true, not-false}
 use lib.ListN.{length, set, take, drop, take-append-drop, drop-of-length-le}
 use lib.Seq.{length-take-le, drop-length}
 use Rattle.lists.proofs.Tests.{cond-equal, cond-unequal}
 use Rattle.lists.proofs.Writing.{sets-front}
 use Rattle.shape.specs.declared.Refusal.{Refusal}
 use Rattle.shape.specs.Shape.{symbolValues, size}
-use Rattle.shape.specs.Refusals.{numberOf, refuse, wrongLength}
-use Rattle.shape.proofs.Accepted.{passed, mostSize}
+use Rattle.shape.specs.Refusals.{numberOf}
+use Rattle.shape.proofs.Accepted.{mostSize}
 use Rattle.shape.proofs.Answers.{number-positive, afterwards-done}
 use Rattle.card.specs.declared.Header.{Header}
 use Rattle.card.specs.declared.Packed.{Packed}
 use Rattle.card.specs.declared.Packed.the-variants as pack
 use Rattle.card.specs.declared.Unpacked.{Unpacked}
 use Rattle.card.specs.declared.Unpacked.the-variants as unpack
-use Rattle.numbers.specs.Numbers.{mostGroups, Numbers, values, broken, readNumbers}
-use Rattle.card.specs.Cards.{headerNumbers, headerOf, headerCount, headerRefusal, cardBytes, cardRoom, packRefusal, Symbols, readSymbols, refused, card, judged, headerBy, unpacked, unpackedBy}
+use Rattle.numbers.specs.Numbers.{mostGroups, Numbers, values, broken}
+use Rattle.card.specs.Cards.{headerFields, fieldCount, headerOf, leastHearing, frontBy, headerRefusal, cardBytes, cardRoom, packRefusal, Symbols, readSymbols, refused, card, judged, headerBy, unpacked, unpackedBy}
 use Rattle.card.specs.Promises.{packedNumber, packedValues, readingOf, readingNumber, readingSymbols, Packs, Unpacks}
 use Rattle.card.proofs.Judging.{header-accepted, pack-accepted}
 use Rattle.card.proofs.Cards.{card-fits}
@@ -40,44 +39,42 @@ card-short h symbols before after answer long p e =
 
 -- ---- the header's buffer
 
--- five numbers are written over a buffer of five
-pub five-set : (xs : List ℕ) (a b c d e : ℕ) → length xs ≡ headerCount → set (set (set (set (set xs 0 a) 1 b) 2 c) 3 d) 4 e ≡ a ∷ b ∷ c ∷ d ∷ e ∷ []
-five-set xs a b c d e l = sets-front (a ∷ b ∷ c ∷ d ∷ e ∷ []) xs (omega arith) ∙ ap (λ t. (a ∷ b ∷ c ∷ d ∷ e ∷ []) ++ t) (drop-of-length-le xs {i = headerCount} (omega arith))
+-- six numbers are written over a buffer of six
+pub six-set : (xs : List ℕ) (a b c d e f : ℕ) → length xs ≡ fieldCount → set (set (set (set (set (set xs 0 a) 1 b) 2 c) 3 d) 4 e) 5 f ≡ a ∷ b ∷ c ∷ d ∷ e ∷ f ∷ []
+six-set xs a b c d e f l =
+    sets-front (a ∷ b ∷ c ∷ d ∷ e ∷ f ∷ []) xs (omega arith) ∙ ap (λ t. (a ∷ b ∷ c ∷ d ∷ e ∷ f ∷ []) ++ t) (drop-of-length-le xs {i = fieldCount} (omega arith))
 
 -- ---- the room for the symbols
 
 module _ (header symbols : ℕ) where
-  pub room-five : header ≡ headerCount → unpackRoom header symbols ≡ symbols
+  pub room-six : header ≡ fieldCount → unpackRoom header symbols ≡ symbols
   unfolding unpackRoom
-  room-five e = cond-equal _ _ header headerCount e
+  room-six e = cond-equal _ _ header fieldCount e
 
-  pub room-other : header ≢ headerCount → unpackRoom header symbols ≡ 0
+  pub room-other : header ≢ fieldCount → unpackRoom header symbols ≡ 0
   unfolding unpackRoom
-  room-other e = cond-unequal _ _ header headerCount e
+  room-other e = cond-unequal _ _ header fieldCount e
 
   pub room-within : unpackRoom header symbols ≤ symbols
-  room-within = go (ℕ-discrete header headerCount)
+  room-within = go (ℕ-discrete header fieldCount)
     where
-      go : Dec (header ≡ headerCount) → unpackRoom header symbols ≤ symbols
-      go (yes e) = omega (arith, room-five e)
+      go : Dec (header ≡ fieldCount) → unpackRoom header symbols ≤ symbols
+      go (yes e) = omega (arith, room-six e)
       go (no e) = omega (arith, room-other e)
 
 -- a card has symbols: no card is read into a buffer that has room for none
 no-room : (bytes : List ℕ) (h : Header) (xs : List ℕ) → unpacked symbolValues bytes 0 ≡ card h xs → ⊥
-unfolding unpackedBy headerBy wrongLength
-no-room bytes h xs e = go (readNumbers headerCount bytes) e
+unfolding unpackedBy headerBy
+no-room bytes h xs e = go (frontBy mostGroups bytes) e
   where
     go : (n : Numbers) → headerBy mostGroups symbolValues 0 n ≡ card h xs → ⊥
     go broken q = let z : _≡_ {A = ℕ} 0 1 = cc in omega arith
-    go (values ys rest) q = next (headerRefusal (headerOf ys) tail) refl (readSymbols symbolValues (size (headerOf ys .shape)) rest) q
+    go (values ys rest) q = next (headerRefusal (leastHearing ys) (headerOf ys) 0 0) refl (readSymbols symbolValues (size (headerOf ys .shape)) rest) q
       where
-        tail : ℕ
-        tail = refuse (wrongLength 0 (size (headerOf ys .shape))) 4 0
-
-        next : (number : ℕ) → headerRefusal (headerOf ys) tail ≡ number → (found : Symbols) → judged (headerOf ys) number found ≡ card h xs → ⊥
+        next : (number : ℕ) → headerRefusal (leastHearing ys) (headerOf ys) 0 0 ≡ number → (found : Symbols) → judged (headerOf ys) number found ≡ card h xs → ⊥
         next zero a found q =
-            let head = header-accepted (headerOf ys) tail a in
-            omega (arith, head .0 .shaped .size-low, eqb-true 0 (size (headerOf ys .shape)) (not-false _ (passed (wrongLength 0 (size (headerOf ys .shape))) 3 0 (head .1) .0)))
+            let head = header-accepted (leastHearing ys) (headerOf ys) 0 0 a .0 in
+            omega (arith, head .shaped .size-low, head .long)
         next (suc number) a found q = let q′ : refused (suc number) ≡ card h xs = unfold judged in q in let z : _≡_ {A = ℕ} 0 1 = cc in omega arith
 
 -- the buffers behind the call, whose symbols were lent in the front of their buffer
@@ -101,29 +98,29 @@ module _ (bytes symbols header after : List ℕ) (room : ℕ) (same : room ≡ u
         returned = sym (ap readingNumber read);
         symbols-buffer = ap (λ t. t ++ drop room symbols) kept ∙ take-append-drop room symbols ∙ sym (ap (readingSymbols symbols) read);
         header-buffer = sym (ap (readingHeader header) read);
-        five = λ z. absurd (omega (arith, number-positive cause));
+        six = λ z. absurd (omega (arith, number-positive cause));
       }
 
   module _ (h : Header) (e : answer ≡ unpack.Header h) where
     read : unpackedInto bytes symbols header ≡ card h after
     read = reading ∙ ap (λ w. readingOf w after) e
 
-    pub header-five : length header ≡ headerCount
+    pub header-six : length header ≡ fieldCount
     unfolding unpackedInto
-    header-five = go (ℕ-discrete (length header) headerCount)
+    header-six = go (ℕ-discrete (length header) fieldCount)
       where
-        go : Dec (length header ≡ headerCount) → length header ≡ headerCount
+        go : Dec (length header ≡ fieldCount) → length header ≡ fieldCount
         go (yes f) = f
         go (no f) = absurd (no-room bytes h after (ap (unpacked symbolValues bytes) (sym (room-other (length header) (length symbols) f)) ∙ read))
 
     all-lent : room ≡ length symbols
-    all-lent = same ∙ room-five (length header) (length symbols) header-five
+    all-lent = same ∙ room-six (length header) (length symbols) header-six
 
-    pub unpack-done : (now : List ℕ) → now ≡ headerNumbers h → UnpackReturned bytes symbols (after ++ drop room symbols) header now 0
+    pub unpack-done : (now : List ℕ) → now ≡ headerFields h → UnpackReturned bytes symbols (after ++ drop room symbols) header now 0
     unfolding readingNumber readingSymbols readingHeader
     unpack-done now n = record {
       returned = sym (ap readingNumber read);
       symbols-buffer = ap (λ k. after ++ drop k symbols) all-lent ∙ ap (λ t. after ++ t) (drop-length symbols) ∙ append-nil after ∙ sym (ap (readingSymbols symbols) read);
       header-buffer = n ∙ sym (ap (readingHeader header) read);
-      five = λ z. header-five;
+      six = λ z. header-six;
     }

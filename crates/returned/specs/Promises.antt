@@ -14,7 +14,7 @@ use Rattle.checking.specs.Promises.{equationNumber, symbolNumber}
 use Rattle.card.specs.declared.Header.{Header}
 use Rattle.card.specs.declared.Packed.{Packed}
 use Rattle.card.specs.declared.Packed.the-variants as packed
-use Rattle.card.specs.Cards.{Reading, refused, card, headerNumbers, headerCount, unpacked}
+use Rattle.card.specs.Cards.{Reading, refused, card, headerFields, fieldCount, unpacked}
 use Rattle.card.specs.Promises.{readingNumber, readingSymbols}
 use Rattle.plan.specs.declared.Planned.{Planned}
 use Rattle.plan.specs.declared.Planned.the-variants as planned
@@ -29,9 +29,9 @@ pub record Returned {A : Type 0} (numberFor : A → ℕ) (promise : A → Type 0
 abbrev pub shapeOf : ℕ → ℕ → ℕ → Shape
 shapeOf n k layers = record { n = n; k = k; layers = layers }
 
--- the header that five numbers make
-abbrev pub headerFrom : ℕ → ℕ → ℕ → ℕ → ℕ → Header
-headerFrom n k layers node len = record { shape = shapeOf n k layers; node = node; len = len }
+-- the header that six numbers make
+abbrev pub headerFrom : ℕ → ℕ → ℕ → ℕ → ℕ → ℕ → Header
+headerFrom n k layers node len hearing = record { shape = shapeOf n k layers; node = node; len = len; hearing = hearing }
 
 -- ---- what a number says beside a refusal
 
@@ -66,16 +66,16 @@ planReturned (planned.Text long) = firstFound + long
 -- the symbols that unpacking has room for: beside a header buffer of another length, none. A card has symbols, so it is then turned back with 4
 -- where "the size of the lent buffer" is judged
 unfoldable pub unpackRoom : ℕ → ℕ → ℕ
-unpackRoom header symbols = cond (eqb header headerCount) symbols 0
+unpackRoom header symbols = cond (eqb header fieldCount) symbols 0
 
 -- a card read into a buffer of symbols and one of header numbers
 unfoldable pub unpackedInto : List ℕ → List ℕ → List ℕ → Reading
 unpackedInto bytes symbols header = unpacked symbolValues bytes (unpackRoom (length header) (length symbols))
 
--- the header's buffer behind a reading: "n, k, L, node number, transcript length"
+-- the header's buffer behind a reading: "n, k, L, node, length, hearing number" (document 02 §9)
 unfoldable pub readingHeader : List ℕ → Reading → List ℕ
 readingHeader before (refused number) = before
-readingHeader before (card h symbols) = headerNumbers h
+readingHeader before (card h symbols) = headerFields h
 
 -- unpacking into two buffers
 pub record UnpackReturned (bytes symbols symbols-after header header-after : List ℕ) (number : ℕ) : Type 0 where
@@ -83,4 +83,4 @@ pub record UnpackReturned (bytes symbols symbols-after header header-after : Lis
   pub symbols-buffer : symbols-after ≡ readingSymbols symbols (unpackedInto bytes symbols header)
   pub header-buffer : header-after ≡ readingHeader header (unpackedInto bytes symbols header)
   -- a call that does its work has a header buffer of the exact length
-  pub five : number ≡ 0 → length header ≡ headerCount
+  pub six : number ≡ 0 → length header ≡ fieldCount

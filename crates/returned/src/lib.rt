@@ -12,11 +12,11 @@ ghost use lib.ListN.{length};
 ghost use Rattle.shape.specs.Shape.{size};
 ghost use Rattle.shape.specs.Refusals.{answerNumber, shapeBad};
 ghost use Rattle.checking.specs.Promises.{equationNumber};
-ghost use Rattle.card.specs.Cards.{headerCount, headerNumbers};
+ghost use Rattle.card.specs.Cards.{fieldCount, headerFields};
 ghost use Rattle.returned.specs.Promises.{behindEquations, unpackRoom};
 
-// The numbers of a card's header: n, k, layers, node, length.
-const HEADER_COUNT: usize = 5;
+// The numbers of a card's header: n, k, layers, node, length, hearing number.
+const HEADER_COUNT: usize = 6;
 
 // What a call that does its work or turns back returns to C.
 pub fn answer_number(answer: Answer) -> usize
@@ -56,10 +56,10 @@ pub fn unpack_room(header: usize, symbols: usize) -> usize
     if header == HEADER_COUNT { symbols } else { 0 }
 }
 
-// A header's numbers, in the order in which a card has them.
+// A header's numbers, in the order in which a card has them; the hearing number is 0 where there is none.
 pub fn store_header(read: Header, header: &mut [usize])
-    requires { ⌜ length (now header) ≡ headerCount ⌝ }
-    ensures { λ _. ⌜ now (header .exit) ≡ headerNumbers read ⌝ }
+    requires { ⌜ length (now header) ≡ fieldCount ⌝ }
+    ensures { λ _. ⌜ now (header .exit) ≡ headerFields read ⌝ }
 {
     let s = read.shape;
     header[0] = s.n;
@@ -67,4 +67,5 @@ pub fn store_header(read: Header, header: &mut [usize])
     header[2] = s.layers;
     header[3] = read.node;
     header[4] = read.len;
+    header[5] = read.hearing;
 }

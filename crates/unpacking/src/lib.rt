@@ -1,5 +1,6 @@
 // Node files unpacked: the header read and judged, every symbol judged, and only then the symbols written.
 use card::Front;
+use card::HEARING_LEAD;
 use card::Header;
 use card::Unpacked;
 use card::judge_header;
@@ -10,18 +11,21 @@ use shape::MODULUS;
 use shape::Refusal;
 use shape::Shape;
 ghost use mathlib.Core.Path.{_≡_};
+ghost use Prim.Native.Nat.{_≤_};
 ghost use lib.ListN.{length, drop};
-ghost use Rattle.shape.specs.Shape.{symbolValues, size};
-ghost use Rattle.shape.specs.Refusals.{answerNumber, refuse, wrongLength};
-ghost use Rattle.numbers.specs.Numbers.{readNumbers};
-ghost use Rattle.card.specs.Cards.{headerCount, frontOf, headerRefusal, readSymbols, symbolsNumber, symbolsRead};
+ghost use Rattle.shape.specs.Shape.{symbolValues};
+ghost use Rattle.shape.specs.Refusals.{answerNumber};
+ghost use Rattle.numbers.specs.declared.Number.the-variants.{Read};
+ghost use Rattle.numbers.specs.Numbers.{mostGroups, numberAt, readNumbers};
+ghost use Rattle.card.specs.Cards.{plainCount, hearingLead, frontBy, frontOf, plainOf, readSymbols, symbolsNumber, symbolsRead};
 ghost use Rattle.card.specs.Promises.{Unpacks};
 
-// The five numbers at the front of a card. "A number that is cut short ends the reading with 6."
-fn read_header(card: &[u8]) -> Front
-    ensures { λ r. ⌜ r ≡ frontOf (length (now (card .entry))) (readNumbers headerCount (now (card .entry))) ⌝ }
+// Five numbers from a place on: a header without a hearing number. "A number that is cut short ends the reading with 6."
+fn read_plain(card: &[u8], start: usize) -> Front
+    requires { ⌜ start ≤ length (now card) ⌝ }
+    ensures { λ r. ⌜ r ≡ plainOf (length (now (card .entry))) (readNumbers plainCount (drop start (now (card .entry)))) ⌝ }
 {
-    let Number::Read { value: n, next: at } = read_number(card, 0) else {
+    let Number::Read { value: n, next: at } = read_number(card, start) else {
         return Front::Refused(Refusal::Malformed);
     };
     let Number::Read { value: k, next: at } = read_number(card, at) else {
@@ -46,23 +50,67 @@ fn read_header(card: &[u8]) -> Front
     };
     let shape = Shape { n, k, layers };
     Front::Read {
-        header: Header { shape, node, len },
+        header: Header {
+            shape,
+            node,
+            len,
+            hearing: 0,
+        },
+        least: 0,
         next,
     }
 }
 
-// "the shape, the node, the length against k × N (6), the size of the lent buffer"
-fn judge_unpacking(header: Header, room: usize) -> Answer
-    ensures { λ r. ⌜ answerNumber r ≡ headerRefusal header (refuse (wrongLength room (size (header .shape))) 4 0) ⌝ }
+// A card whose first number is 1, from the place behind that: five numbers, and the hearing number, which is not 0 then (document 02 §9).
+fn read_heard(card: &[u8], start: usize) -> Front
+    requires { ⌜ numberAt mostGroups (now card) 0 ≡ Read hearingLead start ⌝ }
+    ensures { λ r. ⌜ r ≡ frontOf (length (now (card .entry))) (frontBy mostGroups (now (card .entry))) ⌝ }
 {
-    if let Answer::Refused(cause) = judge_header(header) {
-        return Answer::Refused(cause);
+    let Front::Read {
+        header: plain,
+        least: _,
+        next: at,
+    } = read_plain(card, start)
+    else {
+        return Front::Refused(Refusal::Malformed);
+    };
+    let Number::Read {
+        value: hearing,
+        next,
+    } = read_number(card, at)
+    else {
+        return Front::Refused(Refusal::Malformed);
+    };
+    let shape = plain.shape;
+    let node = plain.node;
+    let len = plain.len;
+    Front::Read {
+        header: Header {
+            shape,
+            node,
+            len,
+            hearing,
+        },
+        least: 1,
+        next,
     }
-    let s = header.shape;
-    if room != shape::size(s) {
-        return Answer::Refused(Refusal::WrongLength);
+}
+
+// The numbers in front of the symbols: the first says how many there are.
+fn read_header(card: &[u8]) -> Front
+    ensures { λ r. ⌜ r ≡ frontOf (length (now (card .entry))) (frontBy mostGroups (now (card .entry))) ⌝ }
+{
+    let Number::Read {
+        value: first,
+        next: start,
+    } = read_number(card, 0)
+    else {
+        return Front::Refused(Refusal::Malformed);
+    };
+    if first == HEARING_LEAD {
+        return read_heard(card, start);
     }
-    Answer::Done
+    read_plain(card, 0)
 }
 
 // The first pass: "each symbol's form (6) then value (5) in turn, bytes left over (6)". It writes nothing.
@@ -108,10 +156,15 @@ fn read_symbols(card: &[u8], start: usize, symbols: &mut [u16])
 pub fn unpack(card: &[u8], symbols: &mut [u16]) -> Unpacked
     ensures { λ r. ⌜ Unpacks (now (card .entry)) (now (symbols .entry)) (now (symbols .exit)) r ⌝ }
 {
-    let Front::Read { header, next } = read_header(card) else {
+    let Front::Read {
+        header,
+        least,
+        next,
+    } = read_header(card)
+    else {
         return Unpacked::Refused(Refusal::Malformed);
     };
-    if let Answer::Refused(cause) = judge_unpacking(header, symbols.len()) {
+    if let Answer::Refused(cause) = judge_header(header, least, symbols.len()) {
         return Unpacked::Refused(cause);
     }
     let judged = scan_symbols(MODULUS as usize, card, next, symbols.len());

@@ -18,8 +18,8 @@ pub fn asks_for_help(given: &[OsString]) -> bool {
 }
 
 impl Args {
-    /// Takes exactly the words of the command, and each of its options once at most, as `--name value` or
-    /// `--name=value`. Behind `--` all are words; `-` is a word.
+    /// Takes exactly the words of the command, the last of them more than once where it repeats, and each of its
+    /// options once at most, as `--name value` or `--name=value`. Behind `--` all are words; `-` is a word.
     pub fn parse(given: &[OsString], command: &Command) -> Result<Args, Failure> {
         let mut args = Args::default();
         let mut given = given.iter();
@@ -33,9 +33,11 @@ impl Args {
             }
         }
         match (args.words.get(command.words.len()), command.words.get(args.words.len())) {
-            (Some(extra), _) => Err(Failure::argument(&format!("what is {} for?", extra.to_string_lossy()))),
-            (None, Some(missing)) => Err(Failure::argument(&format!("{missing} is missing"))),
-            (None, None) => Ok(args),
+            (Some(extra), _) if !command.repeats => {
+                Err(Failure::argument(&format!("what is {} for?", extra.to_string_lossy())))
+            }
+            (_, Some(missing)) => Err(Failure::argument(&format!("{missing} is missing"))),
+            _ => Ok(args),
         }
     }
 
@@ -80,6 +82,11 @@ impl Args {
     /// The word at a place, as a path.
     pub fn path(&self, place: usize) -> &Path {
         Path::new(self.words.get(place).map_or(OsStr::new(""), OsString::as_os_str))
+    }
+
+    /// Every word, as a path.
+    pub fn paths(&self) -> Vec<&Path> {
+        self.words.iter().map(Path::new).collect()
     }
 
     /// An option's number, where it is given.

@@ -1,10 +1,10 @@
 //! The cards of one archive in a directory: which nodes they are of, whether they agree, and the transcript in them.
 use std::path::{Path, PathBuf};
 
-use hmsr::Shape;
+use hmsr::{Header, Shape};
 
 use super::card_files::{card_name, card_path, numbers_of_cards, read_card, Card, Unreadable};
-use super::groups::{self, described, kind};
+use super::groups::{self, described, kind, Kind};
 use super::text::{joined, nodes_listed, shown};
 use super::Failure;
 
@@ -13,6 +13,8 @@ pub struct Cards {
     pub directory: PathBuf,
     pub shape: Shape,
     pub length: usize,
+    /// The hearing number, 0 for none.
+    pub hearing: usize,
     /// The readable cards of this archive.
     cards: Vec<Card>,
     /// The readable cards of others.
@@ -38,24 +40,17 @@ impl Cards {
             return Err(none_readable(directory, &unreadable));
         };
         let (cards, foreign): (Vec<Card>, Vec<Card>) = cards.into_iter().partition(|card| kind(card) == wanted);
-        let (shape, length) = wanted;
+        let Kind { shape, length, hearing } = wanted;
         let used = (0..shape.nodes).map(|node| used(&cards, node)).collect();
-        Ok(Cards { directory: directory.to_path_buf(), shape, length, cards, foreign, used, unreadable })
+        Ok(Cards { directory: directory.to_path_buf(), shape, length, hearing, cards, foreign, used, unreadable })
     }
 
     /// Cards of another archive stop every command: their nodes may be missing, and then they have those nodes' names.
     pub fn refuse_foreign(&self) -> Result<(), Failure> {
-        let Some(first) = self.foreign.first().map(kind) else {
-            return Ok(());
-        };
-        let files = self.foreign.iter().map(|card| shown(&card_path(&self.directory, card.named)));
-        let is = if self.foreign.len() == 1 { "is" } else { "are" };
-        Err(Failure::Repairable(format!(
-            "{} {is} of another archive ({}) than most here ({}): keep the cards of one archive in a directory",
-            joined(files),
-            described(first),
-            self.described()
-        )))
+        match groups::foreign_described(&self.directory, &self.foreign, self.kind()) {
+            Some(foreign) => Err(Failure::Repairable(foreign)),
+            None => Ok(()),
+        }
     }
 
     /// The nodes whose cards can be used, rising.
@@ -168,9 +163,18 @@ impl Cards {
         })
     }
 
+    /// What the card of a node says before its symbols.
+    pub fn header(&self, node: usize) -> Header {
+        Header { shape: self.shape, node, length: self.length, hearing: self.hearing }
+    }
+
+    fn kind(&self) -> Kind {
+        Kind { shape: self.shape, length: self.length, hearing: self.hearing }
+    }
+
     /// The archive in words.
     pub fn described(&self) -> String {
-        described((self.shape, self.length))
+        described(self.kind())
     }
 }
 

@@ -137,6 +137,7 @@ fn archive(cards: &Cards) -> String {
         ("data", data.to_string()),
         ("layers", layers.to_string()),
         ("bytes", cards.length.to_string()),
+        ("hearing", cards.hearing.to_string()),
     ])
 }
 

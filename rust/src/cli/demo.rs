@@ -28,7 +28,8 @@ pub fn run(_: &Args) -> Result<Report, Failure> {
     let mut report =
         format!("A transcript of {} bytes over {NODES} drives, any {DATA} of which give it back.\n", text.len());
     report += &format!("\n$ hmsr write transcript.txt drives --nodes {NODES} --data {DATA}\n");
-    report += &write::write(&transcript, &drives, NODES, DATA, None)?;
+    let wanted = write::Wanted { nodes: NODES, data: DATA, layers: None, hearing: 0 };
+    report += &write::write(&transcript, &drives, &wanted)?;
     report += &format!("\nDrives {} are lost.\n\n$ hmsr repair drives\n", listed(&LOST));
     let written = lose(&drives)?;
     report += &repair::repair(&drives, Wanted::default())?;

@@ -1,6 +1,8 @@
 //! JSON values as text.
 use std::fmt::Write;
 
+use super::text::is_hidden;
+
 /// A string with quotes.
 pub fn string(text: &str) -> String {
     let mut quoted = String::from("\"");
@@ -8,7 +10,7 @@ pub fn string(text: &str) -> String {
         match c {
             '"' | '\\' => quoted.extend(['\\', c]),
             // Below U+10000, so that one escape is enough.
-            c if c.is_control() => write!(quoted, "\\u{:04x}", c as u32).unwrap_or_default(),
+            c if is_hidden(c) => write!(quoted, "\\u{:04x}", c as u32).unwrap_or_default(),
             c => quoted.push(c),
         }
     }

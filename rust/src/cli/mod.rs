@@ -51,6 +51,8 @@ impl From<String> for Report {
 struct Command {
     name: &'static str,
     words: &'static [&'static str],
+    /// Whether the last word may be given more than once.
+    repeats: bool,
     /// Options with a value.
     options: &'static [&'static str],
     flags: &'static [&'static str],
@@ -61,15 +63,24 @@ const COMMANDS: [Command; 7] = [
     Command {
         name: "write",
         words: &["FILE", "DIR"],
-        options: &["--nodes", "--data", "--layers"],
+        repeats: false,
+        options: &["--nodes", "--data", "--layers", "--hearing"],
         flags: &["--quiet"],
         run: write::run,
     },
-    Command { name: "check", words: &["DIR"], options: &[], flags: &["--json", "--quiet"], run: check::run },
-    Command { name: "open", words: &["DIR", "OUT"], options: &[], flags: &["--quiet"], run: open::run },
+    Command {
+        name: "check",
+        words: &["DIR"],
+        repeats: false,
+        options: &[],
+        flags: &["--json", "--quiet"],
+        run: check::run,
+    },
+    Command { name: "open", words: &["DIR", "OUT"], repeats: false, options: &[], flags: &["--quiet"], run: open::run },
     Command {
         name: "repair",
         words: &["DIR"],
+        repeats: false,
         options: &["--dead", "--helpers"],
         flags: &["--dry-run", "--quiet"],
         run: repair::run,
@@ -77,12 +88,13 @@ const COMMANDS: [Command; 7] = [
     Command {
         name: "plan",
         words: &[],
+        repeats: false,
         options: &["--nodes", "--data", "--layers", "--dead", "--helpers"],
         flags: &["--json"],
         run: plan::run,
     },
-    Command { name: "info", words: &["CARD"], options: &[], flags: &["--json"], run: info::run },
-    Command { name: "demo", words: &[], options: &[], flags: &[], run: demo::run },
+    Command { name: "info", words: &["CARD"], repeats: true, options: &[], flags: &["--json"], run: info::run },
+    Command { name: "demo", words: &[], repeats: false, options: &[], flags: &[], run: demo::run },
 ];
 
 /// Runs the command that the arguments name.

@@ -8,7 +8,7 @@ use super::args::Args;
 use super::card_files::number_of_name;
 use super::cards::Cards;
 use super::files::{self, Pending};
-use super::text::{counted, nodes_listed, shown};
+use super::text::{counted, hearing_line, nodes_listed, shown};
 use super::{temporary, Failure, Report};
 
 pub fn run(args: &Args) -> Result<Report, Failure> {
@@ -65,6 +65,7 @@ fn report(cards: &Cards, agreement: &Agreement, used: &[usize], out: &str) -> St
         1 => "1 further card agrees with them\n".to_string(),
         count => format!("{count} further cards agree with them\n"),
     };
+    report += &hearing_line(cards.hearing);
     if !cards.absent().is_empty() {
         report += &format!("not used: {}\n", cards.absent_described());
     }

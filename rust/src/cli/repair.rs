@@ -164,7 +164,7 @@ fn pending_card(cards: &Cards, node: usize, nodes: &[u16]) -> Result<Pending, Fa
     };
     let size = cards.shape.node_symbols().map_err(refused)?;
     let symbols = &nodes[node * size..][..size];
-    let card = cards.shape.pack_to_vec(node, cards.length, symbols).map_err(refused)?;
+    let card = cards.header(node).pack_to_vec(symbols).map_err(refused)?;
     let path = card_path(&cards.directory, node);
     let permissions = fs::symlink_metadata(&path).ok().map(|there| there.permissions());
     let failed = |e| Failure::of_path("write a new card into", &cards.directory, &e);

@@ -1,11 +1,15 @@
 //! Names, numbers and lists as they are shown to the user.
 use std::path::Path;
 
-/// A text without line ends or other control characters, which file names may have, nor those that turn the direction
-/// of what is shown.
+/// Line ends and other control characters, which file names may have, and those that turn the direction of what is
+/// shown.
+pub fn is_hidden(c: char) -> bool {
+    c.is_control() || matches!(c, '\u{2028}'..='\u{202e}' | '\u{2066}'..='\u{2069}')
+}
+
+/// A text without hidden characters.
 pub fn one_line(text: &str) -> String {
-    let hidden = |c: char| c.is_control() || matches!(c, '\u{2028}'..='\u{202e}' | '\u{2066}'..='\u{2069}');
-    let shown = |c: char| if hidden(c) { c.escape_default().to_string() } else { c.to_string() };
+    let shown = |c: char| if is_hidden(c) { c.escape_default().to_string() } else { c.to_string() };
     text.chars().map(shown).collect()
 }
 
@@ -32,6 +36,14 @@ pub fn nodes_listed(nodes: &[usize]) -> String {
     match nodes {
         [node] => format!("node {node}"),
         _ => format!("nodes {}", listed(nodes)),
+    }
+}
+
+/// The line of a report that names the hearing, where there is a hearing number.
+pub fn hearing_line(hearing: usize) -> String {
+    match hearing {
+        0 => String::new(),
+        number => format!("hearing {number}\n"),
     }
 }
 

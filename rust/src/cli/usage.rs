@@ -5,10 +5,11 @@ const USAGES: [(&str, &str); 7] = [
     (
         "write",
         "\
-hmsr write FILE DIR --nodes N --data K [--layers L] [--quiet]
+hmsr write FILE DIR --nodes N --data K [--layers L] [--hearing NUMBER] [--quiet]
         write FILE into N cards, DIR/node-00.card and so on, any K of which give it back (N is 3 to 14, K is 1 to
-        N - 2; without --layers the best number from 1 to 15 is chosen); FILE - is standard input; a write that was
-        killed is finished by the same write again
+        N - 2; without --layers the best number from 1 to 15 is chosen), with the hearing NUMBER on every card (1 to
+        999999; 0, as without --hearing, is none); FILE - is standard input; a write that was killed is finished by
+        the same write again
 ",
     ),
     (
@@ -44,8 +45,9 @@ hmsr plan --nodes N --data K --layers L --dead LIST --helpers LIST [--json]
     (
         "info",
         "\
-hmsr info CARD [--json]
-        what a card says of itself
+hmsr info CARD... [--json]
+        what a card says of itself; of several cards a line each, sorted by hearing number (cards without one come
+        first), then by nodes, data nodes, layers, bytes, node and file
 ",
     ),
     (
@@ -68,7 +70,7 @@ hmsr --help, hmsr COMMAND --help
 hmsr --version
         the version of the program
 
---quiet prints no report, --json prints it for programs to read, -- ends the options.
+--quiet prints no report, --json prints it for programs to read (info: a line for each card), -- ends the options.
 
 Exit status: 0 sound or done; 1 the transcript is there, but cards are missing or wrong: repair; 2 it is lost, or it
 cannot be told which cards are right; 3 wrong arguments; 4 a file cannot be read or written. All but 0 with one line on

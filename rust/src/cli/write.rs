@@ -3,41 +3,66 @@ use std::fs;
 use std::io;
 use std::path::{Path, PathBuf};
 
-use hmsr::Shape;
+use hmsr::{Header, Shape};
 
 use super::args::Args;
 use super::card_files::{card_name, card_path, numbers_of_cards};
 use super::files::{self, Pending};
 use super::temporary::{self, Temporary};
-use super::text::{counted, shown};
+use super::text::{counted, hearing_line, shown};
 use super::{layers, Failure, Report};
+
+/// "0 for none, otherwise 1 to 999,999".
+const MOST_HEARING: usize = 999_999;
+
+/// What the user asks for.
+pub struct Wanted {
+    pub nodes: usize,
+    pub data: usize,
+    /// The best number where none is named.
+    pub layers: Option<usize>,
+    /// The hearing number, 0 for none.
+    pub hearing: usize,
+}
 
 pub fn run(args: &Args) -> Result<Report, Failure> {
     let (nodes, data) = (args.required_number("--nodes")?, args.required_number("--data")?);
-    write(args.path(0), args.path(1), nodes, data, args.number("--layers")?).map(Report::from)
+    let wanted = Wanted { nodes, data, layers: args.number("--layers")?, hearing: hearing(args)? };
+    write(args.path(0), args.path(1), &wanted).map(Report::from)
+}
+
+/// The hearing number that is named, or 0. It is judged here, before the transcript is read; the library judges it when
+/// a card is packed.
+fn hearing(args: &Args) -> Result<usize, Failure> {
+    let number = args.number("--hearing")?.unwrap_or(0);
+    if number <= MOST_HEARING {
+        return Ok(number);
+    }
+    let complaint = format!("--hearing: {number} is too large, hearing numbers are 1 to {MOST_HEARING}, or 0 for none");
+    Err(Failure::argument(&complaint))
 }
 
 /// Writes the file's bytes into cards in the directory, which is made where it is not there.
-pub fn write(
-    file: &Path, directory: &Path, nodes: usize, data: usize, named_layers: Option<usize>,
-) -> Result<String, Failure> {
+pub fn write(file: &Path, directory: &Path, wanted: &Wanted) -> Result<String, Failure> {
+    let &Wanted { nodes, data, hearing, .. } = wanted;
     let bytes = transcript(file, layers::most_bytes(nodes, data)?)?;
     // A transcript of more than the most bytes was not read; a length that no archive holds stands for it.
     let length = bytes.as_ref().map_or(usize::MAX, Vec::len);
-    let shape = match named_layers {
+    let shape = match wanted.layers {
         Some(layers) => layers::named(nodes, data, layers, length)?,
         None => layers::choose(nodes, data, length)?,
     };
-    let cards = packed(shape, &bytes.unwrap_or_default())?;
+    let cards = packed(shape, hearing, &bytes.unwrap_or_default())?;
     let finished = put_cards(directory, &cards)?;
     let gives = if data == 1 { "of them gives" } else { "of them give" };
     Ok(format!(
-        "wrote {} into {nodes} cards in {}: any {data} {gives} it back\n{}, {} bytes at most: {}\n{finished}",
+        "wrote {} into {nodes} cards in {}: any {data} {gives} it back\n{}, {} bytes at most: {}\n{}{finished}",
         counted(length, "byte"),
         shown(directory),
         counted(shape.layers, "layer"),
         shape.capacity().unwrap_or(0),
-        layers::described(shape)
+        layers::described(shape),
+        hearing_line(hearing)
     ))
 }
 
@@ -51,14 +76,15 @@ fn transcript(file: &Path, most: usize) -> Result<Option<Vec<u8>>, Failure> {
 }
 
 /// The card of each node.
-fn packed(shape: Shape, transcript: &[u8]) -> Result<Vec<Vec<u8>>, Failure> {
+fn packed(shape: Shape, hearing: usize, transcript: &[u8]) -> Result<Vec<Vec<u8>>, Failure> {
     let refused = |refusal| {
         Failure::refused(Failure::Lost, "the transcript cannot be written", refusal, "this is a fault of the program")
     };
     let size = shape.node_symbols().map_err(refused)?;
     let symbols = shape.write_to_nodes(transcript).map_err(refused)?;
+    let header = |node: usize| Header { shape, node, length: transcript.len(), hearing };
     let nodes = symbols.chunks_exact(size).enumerate();
-    nodes.map(|(node, symbols)| shape.pack_to_vec(node, transcript.len(), symbols).map_err(refused)).collect()
+    nodes.map(|(node, symbols)| header(node).pack_to_vec(symbols).map_err(refused)).collect()
 }
 
 /// Puts the cards into the directory, all or none. Says so where some were there.

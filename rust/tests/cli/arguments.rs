@@ -24,6 +24,14 @@ fn arguments_that_are_not_understood_are_told_on_one_line() {
         ("open drives opened --json", "there is no option --json here"),
         ("repair drives --dead 1,,2", "--dead:  is not a whole number"),
         ("plan --nodes 4 --data 1 --layers 3 --dead 0", "--helpers is missing"),
+        ("write transcript drives more --nodes 3 --data 1", "what is more for?"),
+        ("open drives opened more", "what is more for?"),
+        ("repair drives more", "what is more for?"),
+        ("plan more", "what is more for?"),
+        ("demo more", "what is more for?"),
+        ("info", "CARD is missing"),
+        ("info --json", "CARD is missing"),
+        ("info a b --quiet", "there is no option --quiet here"),
     ] {
         assert_eq!(place.refuses(line, USAGE, &[]), format!("hmsr: {complaint} (see hmsr --help)\n"), "{line}");
     }

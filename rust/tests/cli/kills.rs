@@ -66,7 +66,7 @@ fn each_whole(place: &Place, before: &Contents, after: &Contents) {
     assert!(before.keys().all(|path| now.contains_key(path)));
 }
 
-const CASES: [Case; 4] = [
+const CASES: [Case; 5] = [
     Case {
         name: "new_directory",
         line: "write transcript drives --nodes 4 --data 1",
@@ -76,6 +76,12 @@ const CASES: [Case; 4] = [
     Case {
         name: "existing_directory",
         line: "write transcript drives --nodes 4 --data 1",
+        prepare: transcript_and_directory,
+        judge: each_whole,
+    },
+    Case {
+        name: "hearing",
+        line: "write transcript drives --nodes 4 --data 1 --hearing 700",
         prepare: transcript_and_directory,
         judge: each_whole,
     },
@@ -132,7 +138,7 @@ fn finished(place: &Place, case: &Case, after: &Contents) {
 /// The calls that a command makes at least: for each new file, to make, write and sync it; the renames; a directory synced.
 #[test]
 fn a_command_killed_at_any_call_loses_nothing() {
-    for (case, files) in CASES.iter().zip([4, 4, 2, 1]) {
+    for (case, files) in CASES.iter().zip([4, 4, 4, 2, 1]) {
         assert!(stopped_at_each_call(case, "kill") > 3 * files + 2, "{}", case.name);
         assert!(stopped_at_each_call(case, "part") >= files, "{}", case.name);
     }
@@ -140,7 +146,7 @@ fn a_command_killed_at_any_call_loses_nothing() {
 
 #[test]
 fn a_command_whose_call_fails_loses_nothing() {
-    for (case, files) in CASES.iter().zip([4, 4, 2, 1]) {
+    for (case, files) in CASES.iter().zip([4, 4, 4, 2, 1]) {
         assert!(stopped_at_each_call(case, "fail") > 3 * files + 2, "{}", case.name);
     }
 }

@@ -53,8 +53,8 @@ fn check_speaks_to_programs() {
     let sound = checked(&place, 0);
     assert_eq!(sound.get("verdict").text(), "sound");
     let archive = sound.get("archive");
-    let numbers = ["nodes", "data", "layers", "bytes"].map(|name| archive.get(name).number());
-    assert_eq!(numbers, [6, 3, 3, 500]);
+    let numbers = ["nodes", "data", "layers", "bytes", "hearing"].map(|name| archive.get(name).number());
+    assert_eq!(numbers, [6, 3, 3, 500, 0]);
     assert_eq!(states(&sound), ["good"; 6]);
 
     place.swap("drives", 0, 4);
@@ -100,8 +100,9 @@ fn wrong_cards_and_names_are_told_to_programs() {
 fn info_and_plan_speak_to_programs() {
     let place = Place::with_archive("json_info");
     let info = Json::read(&place.does("info --json drives/node-04.card"));
-    let numbers = ["node", "nodes", "data", "layers", "bytes", "symbols"].map(|name| info.get(name).number());
-    assert_eq!(numbers, [4, 6, 3, 3, 500, 3 * 64]);
+    let names = ["node", "nodes", "data", "layers", "bytes", "symbols", "hearing"];
+    assert_eq!(names.map(|name| info.get(name).number()), [4, 6, 3, 3, 500, 3 * 64, 0]);
+    assert_eq!(info.get("file").text(), "drives/node-04.card");
     // Document 01's plan.
     let plan = Json::read(&place.does("plan --nodes 4 --data 1 --layers 3 --dead 0,1 --helpers 2,3 --json"));
     let messages = plan.get("messages").items().iter();

@@ -1,5 +1,5 @@
-/* Prints the header's constants and texts, and every size for all shapes and losses of the numbers given, with what the library says to
- * buffers of these sizes. It is compiled as C and as C++. */
+/* Prints the header's constants, a card of each form with its header's numbers, the texts, and every size for all shapes and losses of the
+ * numbers given, with what the library says to buffers of these sizes. It is compiled as C and as C++. */
 #include <stdio.h>
 #include <stdlib.h>
 #include <string.h>
@@ -21,9 +21,24 @@ static void print_constants(void) {
     printf("%d %d\n", HMSR_HEADER, HMSR_PLAN_TEXT);
 }
 
+/* Packs document 01's card for node 1 with a hearing number, and unpacks it: what is returned, and the bytes or the header's numbers. */
+static void print_card(size_t hearing) {
+    const uint16_t node[] = {253, 247, 0, 0, 0, 0, 0, 0};
+    uint16_t back[8];
+    size_t header[HMSR_HEADER] = {0}, i;
+    size_t packed = hmsr_pack(3, 1, 1, 1, 2, hearing, node, 8, card, hmsr_card_room(3, 1, 1));
+    printf("%zu:", packed);
+    for (i = 256; i < packed; i++) printf(" %d", card[i - 256]);
+    printf("\n");
+    if (packed < 256) return;
+    printf("%zu:", hmsr_unpack(card, packed - 256, back, 8, header, HMSR_HEADER));
+    for (i = 0; i < HMSR_HEADER; i++) printf(" %zu", header[i]);
+    printf("\n");
+}
+
 static void print_shape(size_t n, size_t k, size_t layers) {
     size_t size = hmsr_node_symbols(n, k, layers), room = hmsr_card_room(n, k, layers);
-    size_t packed = hmsr_pack(n, k, layers, 0, 0, symbols, size, card, room);
+    size_t packed = hmsr_pack(n, k, layers, 0, 0, 0, symbols, size, card, room);
     size_t checked = hmsr_check(n, k, layers, symbols, n * size);
     printf("%zu %zu %zu %zu\n", size, room, packed, checked);
 }
@@ -44,6 +59,10 @@ int main(int count, char **words) {
     int n, k, layers, h, i;
     memset(symbols, 255, sizeof symbols);
     print_constants();
+    print_card(0);
+    print_card(700);
+    print_card(1000000);
+    print_card(SIZE_MAX);
     for (i = 1; i < count && i < 64; i++) {
         numbers[i] = (size_t)strtoull(words[i], NULL, 10);
         printf("%s\n", hmsr_refusal_text(numbers[i]));

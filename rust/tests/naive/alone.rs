@@ -54,13 +54,41 @@ fn sample_ranks() {
     assert_eq!(table, [(0, 0), (0, 1), (0, 2), (1, 1), (1, 2)]);
 }
 
+const OLD_CARD: [u8; 15] = [3, 1, 1, 1, 2, 253, 1, 247, 1, 0, 0, 0, 0, 0, 0];
+
 #[test]
 fn sample_card() {
-    let header = Header { shape: SMALL, node: 1, length: 2 };
+    let header = Header { shape: SMALL, node: 1, length: 2, hearing: 0 };
     let symbols = &first_archive()[8..16];
     let card = pack(header, symbols, 31).unwrap();
-    assert_eq!(card, [3, 1, 1, 1, 2, 253, 1, 247, 1, 0, 0, 0, 0, 0, 0]);
+    assert_eq!(card, OLD_CARD);
     assert_eq!(unpack(&card, 8), Ok((header, symbols.to_vec())));
+}
+
+/// The same card with hearing number 700, by hand: 700 is 5 × 128 + 60 (document 02 §9).
+#[test]
+fn sample_card_with_a_hearing_number() {
+    let header = Header { shape: SMALL, node: 1, length: 2, hearing: 700 };
+    let symbols = &first_archive()[8..16];
+    let card = pack(header, symbols, 31).unwrap();
+    assert_eq!(card, [1, 3, 1, 1, 1, 2, 188, 5, 253, 1, 247, 1, 0, 0, 0, 0, 0, 0]);
+    assert_eq!(unpack(&card, 8), Ok((header, symbols.to_vec())));
+    let with_hearing = |hearing: &[u8]| [&[1], &OLD_CARD[..5], hearing, &OLD_CARD[5..]].concat();
+    assert_eq!(unpack(&with_hearing(&[0]), 8), Err(6));
+    assert_eq!(unpack(&with_hearing(&[191, 132, 61]), 8).map(|(header, _)| header.hearing), Ok(999_999));
+    assert_eq!(unpack(&with_hearing(&[192, 132, 61]), 8), Err(6));
+    assert_eq!(pack(Header { hearing: 1_000_000, ..header }, symbols, 31), Err(6));
+}
+
+/// The reader and the writer of before document 02 §9.
+#[test]
+fn sample_cards_before() {
+    let header = Header { shape: SMALL, node: 1, length: 2, hearing: 0 };
+    let symbols = first_archive()[8..16].to_vec();
+    assert_eq!(pack_before(header, &symbols, 31), Ok(OLD_CARD.to_vec()));
+    assert_eq!(unpack_before(&OLD_CARD, 8), Ok((header, symbols.clone())));
+    let card = pack(Header { hearing: 700, ..header }, &symbols, 31).unwrap();
+    assert_eq!(unpack_before(&card, 8), Err(1));
 }
 
 #[test]

@@ -11,6 +11,11 @@ pub fn library(shape: Shape) -> hmsr::Shape {
     hmsr::Shape { nodes: shape.n, data: shape.k, layers: shape.layers }
 }
 
+pub fn library_header(header: Header) -> hmsr::Header {
+    let Header { shape, node, length, hearing } = header;
+    hmsr::Header { shape: library(shape), node, length, hearing }
+}
+
 /// Asserts that both did their work or turned back with the same number. Gives the number and what was made.
 fn agreed<T, U: Default>(answer: Result<T, Refusal>, expected: Result<U, Number>) -> (Number, U) {
     let number = answer.err().map_or(0, Refusal::number);
@@ -133,23 +138,23 @@ pub fn repair(random: &mut Random, lists: &Lists, before: &[u16], wire_length: u
 
 pub fn pack(random: &mut Random, header: Header, symbols: &[u16], card_length: usize) -> Number {
     let mut card = Lent::bytes(random, card_length);
-    let answer = library(header.shape).pack(header.node, header.length, symbols, card.slice());
+    let answer = library_header(header).pack(symbols, card.slice());
     let (number, made) = agreed(answer, naive::pack(header, symbols, card_length));
     assert_eq!(answer.unwrap_or(0), made.len());
     card.assert_holds(&made);
     number
 }
 
-/// The library's header buffer has five numbers and is judged with the symbols' buffer: in document 01's terms, a wrong
+/// The library's header buffer has six numbers and is judged with the symbols' buffer: in document 01's terms, a wrong
 /// one is a lent buffer not of the exact length.
 pub fn unpack(random: &mut Random, card: &[u8], symbols_length: usize, header_length: usize) -> Number {
     let mut symbols = Lent::symbols(random, symbols_length);
     let mut header = Lent::numbers(header_length);
     let answer = hmsr::unpack_into(card, symbols.slice(), header.slice());
-    let exact = if header_length == 5 { symbols_length } else { usize::MAX };
+    let exact = if header_length == 6 { symbols_length } else { usize::MAX };
     let expected = naive::unpack(card, exact).map(|(header, symbols)| {
-        let Header { shape, node, length } = header;
-        (vec![shape.n, shape.k, shape.layers, node, length], symbols)
+        let Header { shape, node, length, hearing } = header;
+        (vec![shape.n, shape.k, shape.layers, node, length, hearing], symbols)
     });
     let (number, made) = agreed(answer, expected);
     header.assert_holds(&made.0);

@@ -13,7 +13,7 @@ pub mod plan;
 pub mod random;
 pub mod repair;
 
-pub use card::{pack, unpack, Header};
+pub use card::{pack, pack_before, unpack, unpack_before, Header};
 pub use code::{check, open, restore, write, Fault};
 pub use judge::{Number, Shape};
 pub use plan::plan;

@@ -1,6 +1,6 @@
 //! A small seeded generator, and random inputs for the tests.
 
-use super::{restore, Shape};
+use super::{restore, Header, Shape};
 
 /// SplitMix64.
 pub struct Random(u64);
@@ -73,6 +73,27 @@ impl Random {
     pub fn nodes(&mut self, shape: Shape, count: usize) -> Vec<usize> {
         let all: Vec<usize> = (0..shape.n).collect();
         self.some_of(&all, count)
+    }
+
+    /// A hearing number, or 0 for none: the ends of its range and of groups more often.
+    pub fn hearing(&mut self) -> usize {
+        let any = self.between(1, 999_999);
+        self.choose(&[0, 0, 0, 0, 1, 127, 128, 16_383, 16_384, 999_999, any, any])
+    }
+
+    /// A number above the hearing numbers.
+    pub fn no_hearing(&mut self) -> usize {
+        let above = self.between(1_000_000, (1 << 21) - 1);
+        let truncates = self.between(0, 999_999) + (1 << self.choose(&[20, 32, 63]));
+        self.choose(&[1_000_000, usize::MAX, above, truncates])
+    }
+
+    /// The header of a small card, of one form or the other.
+    pub fn small_header(&mut self) -> Header {
+        let n = self.choose(&[3, 3, 3, 4, 5]);
+        let shape = Shape { n, k: self.between(1, n - 2), layers: self.choose(&[1, 1, 2, 15]) };
+        let length = self.below(shape.capacity() + 1);
+        Header { shape, node: self.below(n), length, hearing: self.hearing() }
     }
 
     /// Any n and k in range, and layers that keep n × N within the bound, but at least one. More than twelve nodes come up

@@ -1,7 +1,8 @@
-//! The samples of document 01: each call's answer and what it left in its buffers, a line for each.
+//! The samples of document 01, and a card with a hearing number (document 02 §9): each call's answer and what it left in
+//! its buffers, a line for each.
 
 use super::digest::{line, number};
-use hmsr::{unpack, Refusal, Repair, Shape};
+use hmsr::{unpack, Header, Refusal, Repair, Shape};
 
 /// "n=3, k=1, L=1".
 const TINY: Shape = Shape { nodes: 3, data: 1, layers: 1 };
@@ -43,10 +44,18 @@ fn repaired() -> String {
     shown(answer, &wire) + &line(&nodes.map(u64::from))
 }
 
-/// The first archive's card for node 1.
-fn packed() -> String {
+/// The first archive's card for node 1, with a hearing number, or 0 for none.
+fn packed(hearing: usize) -> String {
     let mut card = [9; 31];
-    shown(found(TINY.pack(1, 2, &first_archive()[8..16], &mut card)), &card)
+    let header = Header { shape: TINY, node: 1, length: 2, hearing };
+    shown(found(header.pack(&first_archive()[8..16], &mut card)), &card)
+}
+
+/// The hearing number that such a card is unpacked with, which has these bytes for it, and the symbols.
+fn unpacked_hearing(hearing: &[u8]) -> String {
+    let card = [&[1, 3, 1, 1, 1, 2], hearing, &[253, 1, 247, 1, 0, 0, 0, 0, 0, 0]].concat();
+    let mut symbols = [9; 8];
+    shown(found(unpack(&card, &mut symbols).map(|header| header.hearing)), &symbols)
 }
 
 /// What a card of node 1 is unpacked as, whose first symbol has these two bytes and whose others are 0.
@@ -75,10 +84,15 @@ pub fn lines() -> String {
         written(&[0, 0, 0, 6]),
         written(&[]),
         repaired(),
-        packed(),
+        packed(0),
         unpacked(129, 2),
         unpacked(128, 0),
         unpacked(128, 2),
+        packed(700),
+        unpacked_hearing(&[188, 5]),
+        unpacked_hearing(&[191, 132, 61]),
+        unpacked_hearing(&[192, 132, 61]),
+        unpacked_hearing(&[0]),
         no_transcript(),
         line(&losses),
     ]

@@ -1,8 +1,8 @@
--- `hmsr::hmsr_unpack` meets its contract: the part of the symbols' buffer comes back in place, and the header's buffer has five numbers. Assumes nothing.
+-- `hmsr::hmsr_unpack` meets its contract: the part of the symbols' buffer comes back in place, and the header's buffer has six numbers. Assumes nothing.
 use mathlib.Core.Path.{sym}
 use borrow.Author.Needs.{needs}
 use lib.Seq.{length-take-le}
-use Rattle.returned.proofs.Cards.{room-within, unpack-refused, header-five, unpack-done}
+use Rattle.returned.proofs.Cards.{room-within, unpack-refused, header-six, unpack-done}
 use Rattle.hmsr.proofs.hmsr_unpack.Statement.{statement}
 use Rattle.hmsr.proofs.hmsr_unpack.Tie as tie
 
@@ -15,7 +15,7 @@ slice-aggregate-unpack c = sym (length-take-le _ _ (rw (c .before .unpack-room .
 store-header-requires : tie.Need-store-header-requires
 store-header-requires c κs =
     let u = c .before .before .before .before .before .before in
-    header-five _ _ (u .before .before .before .before .before .before .args .header .now) _ _ (u .before .before .unpack-room .ensures) _ (u .unpack .ensures) _ (c .before .before .read .given .1)
+    header-six _ _ (u .before .before .before .before .before .before .args .header .now) _ _ (u .before .before .unpack-room .ensures) _ (u .unpack .ensures) _ (c .before .before .read .given .1)
 
 returns : tie.Need-returns
 returns c =
