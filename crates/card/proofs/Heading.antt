@@ -15,6 +15,7 @@ use Rattle.card.specs.declared.Front.the-variants as front
 use Rattle.numbers.specs.declared.Number.the-variants.{Read, Malformed}
 use Rattle.numbers.specs.Numbers.{mostGroups, Found, value, malformed, readNumber, Numbers, values, broken, andThen, thenNumbers, numberAt, readNumbers, numbersBy}
 use Rattle.card.specs.Cards.{plainCount, hearingLead, longCount, headerWith, leads, headerOf, frontBy, frontOf, plainOf}
+use Rattle.numbers.proofs.Numbers.{numbers-count}
 use Rattle.numbers.proofs.Places.{number-bad, number-read}
 use Rattle.card.proofs.Fronts.{header-plain, header-long, least-plain, least-long, front-none, front-another, front-lead, another-leads, five}
 use Rattle.card.proofs.Reading.{ahead, ahead-broken, ahead-append, Begun, begun, begun-next, begun-bad, begun-end, behind, numbers-behind}
@@ -50,22 +51,6 @@ numbers-parts (suc count) more (suc all) bytes e = go (readNumber mostGroups byt
         → thenNumbers f (readNumbers all) ≡ joined (thenNumbers f (readNumbers count)) more
     go malformed ih = refl
     go (value v r) ih = ap (andThen v) (ih r) ∙ joined-then v (readNumbers count r) more
-
--- the numbers that are read are as many as they should be
-numbers-count : (count : ℕ) (bytes xs rest : List ℕ) → readNumbers count bytes ≡ values xs rest → length xs ≡ count
-unfolding numbersBy thenNumbers andThen
-numbers-count zero bytes [] rest e = refl
-numbers-count zero bytes (x ∷ xs) rest e = absurd (let z : _≡_ {A = ℕ} 0 1 = cc in omega arith)
-numbers-count (suc count) bytes xs rest e = go (readNumber mostGroups bytes) e (numbers-count count)
-  where
-    go : (f : Found) → thenNumbers f (readNumbers count) ≡ values xs rest
-        → ((bytes xs rest : List ℕ) → readNumbers count bytes ≡ values xs rest → length xs ≡ count) → length xs ≡ suc count
-    go malformed q ih = absurd (let z : _≡_ {A = ℕ} 0 1 = cc in omega arith)
-    go (value v r) q ih = next (readNumbers count r) refl q
-      where
-        next : (n : Numbers) → readNumbers count r ≡ n → andThen v n ≡ values xs rest → length xs ≡ suc count
-        next broken d q = absurd (let z : _≡_ {A = ℕ} 0 1 = cc in omega arith)
-        next (values us t) d q = let same : v ∷ us ≡ xs = cc in rw (← same) (ap suc (ih r us t d))
 
 -- ---- the numbers in front of a card
 
@@ -143,7 +128,7 @@ module _ (bytes : List ℕ) where
             record {
               numbers = xs;
               plain-is = sym head;
-              long = numbers-count plainCount (drop start bytes) xs rest d;
+              long = numbers-count mostGroups plainCount (drop start bytes) xs rest d;
               whole =
                   led .whole ∙ ap (ahead (led .numbers)) (numbers-parts plainCount 1 6 (drop start bytes) (omega arith) ∙ ap (λ n. joined n 1) d)
                   ∙ ahead-append (led .numbers) xs (readNumbers 1 rest) ∙ ap (λ l. ahead (hearingLead ∷ xs) (readNumbers 1 l)) tail;
