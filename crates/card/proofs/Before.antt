@@ -20,6 +20,7 @@ use Rattle.card.specs.Cards.{plainNumbers, plainCount, headerFields, hea
 use Rattle.card.specs.Promises.{Packs}
 use Rattle.card.specs.Before.{headerRefusalBefore, packRefusalBefore, cardBytesBefore, PacksBefore, headerBefore, unpackedBefore}
 use Rattle.card.proofs.Judging.{Headed}
+use Rattle.card.proofs.Wider.{no-card}
 use Rattle.card.proofs.Fronts.{numbers-plain, numbers-long, header-plain, least-plain, First, no-number, another, lead, first, numbers-none, front-none, front-another, numbers-first, another-leads}
 
 -- ---- without a hearing number
@@ -116,9 +117,6 @@ module _ (groups modulus : ℕ) (bytes : List ℕ) (room : ℕ) where
   unfolding unpackedBefore headerBefore
   before-plain h symbols e d = go (numbersBy groups plainCount bytes) refl e
     where
-      no-card : {number : ℕ} → refused number ≡ card h symbols → ⊥
-      no-card q = let z : _≡_ {A = ℕ} 0 1 = cc in omega arith
-
       go : (n : Numbers) → numbersBy groups plainCount bytes ≡ n → headerBefore groups modulus room n ≡ card h symbols → ⊥
       go broken q a = no-card a
       go (values xs rest) q a = no-card (sym (lead-before xs rest d q) ∙ e)

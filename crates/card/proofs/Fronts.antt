@@ -56,18 +56,18 @@ module _ (xs : List ℕ) where
   unfolding leastHearing
   least-long e = cond-true _ _ (leads xs) e
 
+pub led-leads : (xs : List ℕ) → leads (hearingLead ∷ xs) ≡ true
+unfolding leads
+led-leads xs = eq-eqb hearingLead hearingLead refl
+
 module _ (least : ℕ) (h : Header) (count : ℕ) (w : Headed least h count) where
   plain-leads : leads (plainNumbers h) ≡ false
   unfolding leads plainNumbers
   plain-leads = ne-eqb (h .shape .n) hearingLead (λ e. omega (arith, w .shaped))
 
-  long-leads : leads (hearingLead ∷ headerFields h) ≡ true
-  unfolding leads
-  long-leads = eq-eqb hearingLead hearingLead refl
-
   -- a header's numbers make that header
   pub header-back : headerOf (headerNumbers h) ≡ h
-  header-back = by-form h (λ xs. headerOf xs ≡ h) (λ e. header-plain _ plain-leads ∙ plain e) (λ l. header-long _ long-leads ∙ long)
+  header-back = by-form h (λ xs. headerOf xs ≡ h) (λ e. header-plain _ plain-leads ∙ plain e) (λ l. header-long _ (led-leads (headerFields h)) ∙ long)
     where
       plain : h .hearing ≡ 0 → headerWith 0 (plainNumbers h) ≡ h
       plain e = ap (λ x. headerWith x (plainNumbers h)) (sym e) ∙ unfold headerWith plainNumbers in refl
@@ -76,7 +76,7 @@ module _ (least : ℕ) (h : Header) (count : ℕ) (w : Headed least h count) whe
       long = unfold headerWith headerFields plainNumbers in refl
 
   pub least-back : leastHearing (headerNumbers h) ≤ h .hearing
-  least-back = by-form h (λ xs. leastHearing xs ≤ h .hearing) (λ e. omega (arith, least-plain _ plain-leads)) (λ l. omega (arith, least-long _ long-leads))
+  least-back = by-form h (λ xs. leastHearing xs ≤ h .hearing) (λ e. omega (arith, least-plain _ plain-leads)) (λ l. omega (arith, least-long _ (led-leads (headerFields h))))
 
   -- they can be written
   plain-writable : Writable (plainNumbers h)

@@ -1,11 +1,9 @@
 -- The header read by places: five numbers that stand anywhere, and the numbers in front of a card, whose first says how many there are.
 use mathlib.Core.Path.{_≡_, refl, sym, ap, _∙_}
 use mathlib.Core.Logic.{_≢_}
-use mathlib.Core.Bool.{true}
 use mathlib.Core.List.{List, [], _∷_, _++_}
 use Prim.Native.Nat.{ℕ, zero, suc, _+_, _-_, _≤_}
 use native.Mathlib.Omega.{arith}
-use borrow.Author.Tests.{eq-eqb}
 use lib.ListN.{length, getD, drop}
 use lib.Seq.{getD-append-seam}
 use Rattle.shape.specs.declared.Refusal.{Refusal}
@@ -14,10 +12,10 @@ use Rattle.card.specs.declared.Header.{Header}
 use Rattle.card.specs.declared.Front.the-variants as front
 use Rattle.numbers.specs.declared.Number.the-variants.{Read, Malformed}
 use Rattle.numbers.specs.Numbers.{mostGroups, Found, value, malformed, readNumber, Numbers, values, broken, andThen, thenNumbers, numberAt, readNumbers, numbersBy}
-use Rattle.card.specs.Cards.{plainCount, hearingLead, longCount, headerWith, leads, headerOf, frontBy, frontOf, plainOf}
+use Rattle.card.specs.Cards.{plainCount, hearingLead, longCount, headerWith, headerOf, frontBy, frontOf, plainOf}
 use Rattle.numbers.proofs.Numbers.{numbers-count}
 use Rattle.numbers.proofs.Places.{number-bad, number-read}
-use Rattle.card.proofs.Fronts.{header-plain, header-long, least-plain, least-long, front-none, front-another, front-lead, another-leads, five}
+use Rattle.card.proofs.Fronts.{header-plain, header-long, least-plain, least-long, led-leads, front-none, front-another, front-lead, another-leads, five}
 use Rattle.card.proofs.Reading.{ahead, ahead-broken, ahead-append, Begun, begun, begun-next, begun-bad, begun-end, behind, numbers-behind}
 
 -- ---- five numbers that stand anywhere
@@ -55,10 +53,6 @@ numbers-parts (suc count) more (suc all) bytes e = go (readNumber mostGroups byt
 -- ---- the numbers in front of a card
 
 -- the header of a leading 1, five numbers and a hearing number
-led-leads : (xs : List ℕ) → leads (hearingLead ∷ xs) ≡ true
-unfolding leads
-led-leads xs = eq-eqb hearingLead hearingLead refl
-
 led-header : (xs : List ℕ) (hearing : ℕ) → length xs ≡ plainCount → headerOf (hearingLead ∷ (xs ++ hearing ∷ [])) ≡ headerWith hearing xs
 led-header xs hearing long = header-long _ (led-leads (xs ++ hearing ∷ [])) ∙ ap (λ g. headerWith g (xs ++ hearing ∷ [])) seam ∙ front
   where

@@ -12,12 +12,13 @@ use Rattle.card.specs.Cards.{headerOf, leastHearing, frontBy, headerRefu
 use Rattle.numbers.proofs.Wider.{number-wider}
 use Rattle.card.proofs.Fronts.{front-wider}
 
+-- what is refused is no card
+pub no-card : {number : ℕ} {header : Header} {xs : List ℕ} → refused number ≡ card header xs → ⊥
+no-card e = let z : _≡_ {A = ℕ} 0 1 = cc in omega arith
+
 module _ (groups more : ℕ) (h : groups ≤ more) (modulus : ℕ) where
   no-symbols : {number : ℕ} {xs : List ℕ} → bad number ≡ got xs → ⊥
   no-symbols e = let z : _≡_ {A = ℕ} 0 1 = cc in omega arith
-
-  no-card : {number : ℕ} {header : Header} {xs : List ℕ} → refused number ≡ card header xs → ⊥
-  no-card e = let z : _≡_ {A = ℕ} 0 1 = cc in omega arith
 
   symbols-wider : (count : ℕ) (bytes xs : List ℕ) → symbolsBy groups modulus count bytes ≡ got xs → symbolsBy more modulus count bytes ≡ got xs
   unfolding symbolsBy thenSymbols andSymbol
