@@ -3,6 +3,7 @@ use card::Header;
 use card::Packed;
 use card::Unpacked;
 use checking::Checked;
+use choosing::Chosen;
 use plan::Planned;
 use returned::answer_number;
 use returned::equation_number;
@@ -18,9 +19,10 @@ ghost use Rattle.checking.specs.Promises.{Checks};
 ghost use Rattle.repair.specs.Promises.{HelperMessage, FirstStep, SecondStep, Repaired};
 ghost use Rattle.card.specs.Promises.{Packs};
 ghost use Rattle.plan.specs.Promises.{Plans};
-ghost use Rattle.returned.specs.Promises.{Returned, shapeOf, headerFrom, checkReturned, packReturned, planReturned, UnpackReturned};
+ghost use Rattle.choosing.specs.Promises.{Chooses};
+ghost use Rattle.returned.specs.Promises.{Returned, shapeOf, headerFrom, checkReturned, packReturned, planReturned, layersReturned, UnpackReturned};
 
-// What check, pack and plan find is returned behind the numbers below this one, which are refusals'.
+// What check, pack, plan and layers find is returned behind the numbers below this one, which are refusals'.
 const FIRST_FOUND: usize = 256;
 
 // The archive of a transcript.
@@ -210,5 +212,16 @@ pub extern "C" fn hmsr_plan(input: &[u8], text: &mut [u8]) -> usize
     match plan::plan(input, text) {
         Planned::Refused(cause) => number_of(cause),
         Planned::Text(long) => FIRST_FOUND + long,
+    }
+}
+
+// The smallest number of layers that serves a list of losses (document 02 §6): a refusal's number, or L behind FIRST_FOUND.
+#[no_mangle]
+pub extern "C" fn hmsr_layers(n: usize, k: usize, losses: &[usize]) -> usize
+    ensures { λ r. ⌜ Returned layersReturned (Chooses n k (now (losses .entry))) r ⌝ }
+{
+    match choosing::layers(n, k, losses) {
+        Chosen::Refused(cause) => number_of(cause),
+        Chosen::Layers(least) => FIRST_FOUND + least,
     }
 }

@@ -18,6 +18,8 @@ use Rattle.card.specs.Cards.{Reading, refused, card, headerFields, fieldCount, 
 use Rattle.card.specs.Promises.{readingNumber, readingSymbols}
 use Rattle.plan.specs.declared.Planned.{Planned}
 use Rattle.plan.specs.declared.Planned.the-variants as planned
+use Rattle.choosing.specs.declared.Chosen.{Chosen}
+use Rattle.choosing.specs.declared.Chosen.the-variants as chosen
 
 -- every call but unpack: the promise of the call below holds of an answer, and the number returned is that answer's, which the promise fixes
 pub record Returned {A : Type 0} (numberFor : A → ℕ) (promise : A → Type 0) (number : ℕ) : Type 0 where
@@ -35,7 +37,8 @@ headerFrom n k layers node len hearing = record { shape = shapeOf n k layers; no
 
 -- ---- what a number says beside a refusal
 
--- what check finds, the length of a packed card and that of a plan's text stand behind the numbers below this one, which are refusals'
+-- what check finds, the length of a packed card and that of a plan's text, and the layers chosen stand behind the numbers below this one,
+-- which are refusals'
 abbrev pub firstFound : ℕ
 firstFound = 256
 
@@ -60,6 +63,11 @@ packReturned (packed.Card long) = firstFound + long
 abbrev pub planReturned : Planned → ℕ
 planReturned (planned.Refused cause) = numberOf cause
 planReturned (planned.Text long) = firstFound + long
+
+-- a refusal's number, or 256 + L (document 02 §6)
+abbrev pub layersReturned : Chosen → ℕ
+layersReturned (chosen.Refused cause) = numberOf cause
+layersReturned (chosen.Layers layers) = firstFound + layers
 
 -- ---- unpack
 

@@ -4,8 +4,10 @@ use mathlib.Core.List.{List}
 use Prim.Native.Nat.{ℕ, zero, suc, _<_}
 use native.Mathlib.Omega.{arith}
 use Rattle.shape.specs.declared.Refusal.{Refusal}
-use Rattle.shape.specs.declared.Refusal.the-variants.{BadShape, BadNodes, PartBatch, WrongLength, BadSymbol, Malformed, NoTranscript}
-use Rattle.shape.specs.Refusals.{numberOf, afterwards}
+use Rattle.shape.specs.declared.Refusal.the-variants.{BadShape, BadNodes, PartBatch, WrongLength, BadSymbol, Malformed, NoTranscript, NoLayers}
+use Rattle.shape.specs.declared.Answer.{Answer}
+use Rattle.shape.specs.declared.Answer.the-variants.{Done, Refused}
+use Rattle.shape.specs.Refusals.{numberOf, answerNumber, afterwards}
 
 pub number-positive : (r : Refusal) → 0 < numberOf r
 number-positive BadShape = omega arith
@@ -15,6 +17,12 @@ number-positive WrongLength = omega arith
 number-positive BadSymbol = omega arith
 number-positive Malformed = omega arith
 number-positive NoTranscript = omega arith
+number-positive NoLayers = omega arith
+
+-- an answer whose number is 0 is that the work is done
+pub number-done : (answer : Answer) → answerNumber answer ≡ 0 → answer ≡ Done
+number-done Done e = refl
+number-done (Refused cause) e = absurd (omega (arith, number-positive cause))
 
 -- a buffer when the call did its work, and when it turned back with a cause
 module _ (before made : List ℕ) where

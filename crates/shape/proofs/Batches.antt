@@ -56,3 +56,10 @@ more-fuel (suc fuel) x p h = go (more-fuel fuel (x / 2)) (eqb (x % 2) 0) refl
 pub odd-half : (fuel x : ℕ) → 0 < x → x ≤ fuel + 1 → x % 2 ≡ 0 → oddPart fuel x ≡ oddPart fuel (x / 2)
 unfolding oddPart
 odd-half fuel x p h e = more-fuel fuel x p h ∙ rw (eq-eqb (x % 2) 0 e)
+
+-- there is one way to write a number as an odd number times a power of 2
+pub odd-only : (power fuel x o : ℕ) → 0 < x → x ≤ fuel + 1 → o % 2 ≡ 1 → x ≡ o * 2 ^ power → oddPart fuel x ≡ o
+odd-only zero fuel x o p h odd e = let one : x ≡ o = e ∙ mul-one o in odd-done fuel x (λ z. omega arith) ∙ one
+odd-only (suc power) fuel x o p h odd e =
+    let twice : x ≡ o * 2 ^ power * 2 = e ∙ rw (pow-suc 2 power) (omega arith) in
+    odd-half fuel x p h (omega arith) ∙ odd-only power fuel (x / 2) o (omega arith) (omega arith) odd (omega arith)

@@ -13,7 +13,7 @@ use Rattle.lists.proofs.Members.{rising-below}
 use Rattle.lists.proofs.Writing.{Writing, writing-all, writing-room}
 use Rattle.shape.specs.declared.Shape.{Shape}
 use Rattle.shape.specs.declared.Refusal.{Refusal}
-use Rattle.shape.specs.declared.Refusal.the-variants.{BadShape, BadNodes, PartBatch, WrongLength, BadSymbol, Malformed, NoTranscript}
+use Rattle.shape.specs.declared.Refusal.the-variants.{BadShape, BadNodes, PartBatch, WrongLength, BadSymbol, Malformed, NoTranscript, NoLayers}
 use Rattle.shape.specs.Shape.{mostNodes, size, within}
 use Rattle.shape.specs.Refusals.{numberOf, refuse, shapeBad, repairBad, layersBad}
 use Rattle.shape.proofs.Accepted.{passed, Shaped, shape-accepted, Repairable, repair-accepted, mostSize}
@@ -174,11 +174,11 @@ module _ (s : Shape) (dead helpers : List ℕ) (p : Plannable s dead helpers) wh
 
 -- ---- every text
 
--- a line with a refusal's number
-pub refusal-fits : (number : ℕ) → number < 10 → length (line (number ∷ [])) ≤ planRoom
-refusal-fits number h = omega (arith, line-more 0 number [] 0 h line-none)
+-- a line with a refusal's number, which has one digit or two
+pub refusal-fits : (number : ℕ) → number < 100 → length (line (number ∷ [])) ≤ planRoom
+refusal-fits number h = omega (arith, line-more 1 number [] 0 h line-none)
 
-pub number-small : (cause : Refusal) → numberOf cause < 10
+pub number-small : (cause : Refusal) → numberOf cause < 100
 number-small BadShape = omega arith
 number-small BadNodes = omega arith
 number-small PartBatch = omega arith
@@ -186,6 +186,7 @@ number-small WrongLength = omega arith
 number-small BadSymbol = omega arith
 number-small Malformed = omega arith
 number-small NoTranscript = omega arith
+number-small NoLayers = omega arith
 
 refuse-small : (cause : Bool) (number rest : ℕ) → number < 10 → rest < 10 → refuse cause number rest < 10
 refuse-small true number rest h l = h
@@ -194,7 +195,7 @@ refuse-small false number rest h l = l
 or-fits : (number : ℕ) (text : List ℕ) → number < 10 → (number ≡ 0 → length text ≤ planRoom) → length (textOr number text) ≤ planRoom
 unfolding textOr
 or-fits zero text h l = l refl
-or-fits (suc number) text h l = refusal-fits (suc number) h
+or-fits (suc number) text h l = refusal-fits (suc number) (omega arith)
 
 -- lists that are not refused are planned
 pub lists-accepted : (s : Shape) (dead helpers : List ℕ) (left : Bool) → shapeBad s ≡ false → listsNumber s dead helpers left ≡ 0 → Plannable s dead helpers
