@@ -8,11 +8,11 @@
  * pointer without const) may overlap no other buffer of the call; buffers that it only reads may overlap each other. Lists of nodes
  * are strictly rising. No call keeps a pointer, allocates memory, or has a state of its own. hmsr_write, hmsr_check, hmsr_restore,
  * hmsr_open, hmsr_first_step and hmsr_repair need less than 72 KB of stack, hmsr_helper_message and hmsr_second_step less than 36 KB, the
- * other calls less than 16 KB, whatever N is.
+ * other calls less than 16 KB, whatever N and the lengths of lists are.
  *
  * A call returns 0 where it did its work, and otherwise the number of the first cause for which it turned back, except where its
- * comment says so. The causes are judged in the order 1, 2, 3, 4, 5, 7; cards and the plan have orders of their own. Where a call
- * turned back, every buffer is as it was.
+ * comment says so. The causes are judged in the order 1, 2, 11, 3, 4, 5, 7; cards and the plan have orders of their own. Where a
+ * call turned back, every buffer is as it was.
  *
  * From top to bottom: the version, the refusals and their texts, the sizes of buffers, and the calls. The calls are the library's; the
  * functions before them are C for C99 or later, or C++.
@@ -32,13 +32,14 @@ extern "C" {
 #define HMSR_VERSION_MINOR 1
 #define HMSR_VERSION_PATCH 0
 
-/* The refusals, that is, the causes for which calls turn back. The comments of the calls name them by their numbers. There is no 8. */
+/* The refusals, that is, the causes for which calls turn back. The comments of the calls name them by their numbers. There is
+ * no 8, 9 or 10. */
 
 /* n outside 3 to 14, k outside 1 to n-2, or layers outside 1 to 15. */
 #define HMSR_BAD_SHAPE 1
 
 /* A node not below n; a list not strictly rising, or of the wrong count; dead nodes fewer than 1 or more than n-k-1, or dead and helpers
- * overlapping; a new node that is not in the dead list, or a helper that is not in the helper list. */
+ * overlapping; a new node that is not in the dead list, or a helper that is not in the helper list; a loss outside 1 to n-k-1. */
 #define HMSR_BAD_NODES 2
 
 /* layers not a multiple of s, where h dead nodes make h+1 = s * 2^m with s odd. */
@@ -56,17 +57,21 @@ extern "C" {
 /* Opening: the symbols are not those of a transcript of that length. */
 #define HMSR_NO_TRANSCRIPT 7
 
+/* Choosing layers: no number of layers up to 15 serves every loss in the list. */
+#define HMSR_NO_LAYERS 11
+
 /* A refusal's cause in words, on one line without a line end. 0 and numbers that are no refusal's have a fixed text of their own. */
 static inline const char *hmsr_refusal_text(size_t number) {
     switch (number) {
     case 0: return "no refusal";
     case HMSR_BAD_SHAPE: return "there must be 3 to 14 nodes, 1 to nodes - 2 data nodes and 1 to 15 layers";
-    case HMSR_BAD_NODES: return "the node lists are not as they should be";
+    case HMSR_BAD_NODES: return "the node lists, or the losses, are not as they should be";
     case HMSR_PART_BATCH: return "the number of layers is not a multiple of the layers of a batch";
     case HMSR_WRONG_LENGTH: return "a buffer is not of the exact length, or the transcript is too long";
     case HMSR_BAD_SYMBOL: return "a symbol is above 256";
     case HMSR_MALFORMED: return "the card or the input is malformed";
     case HMSR_NO_TRANSCRIPT: return "the symbols are not those of a transcript of that length";
+    case HMSR_NO_LAYERS: return "no number of layers from 1 to 15 serves every loss in the list";
     default: return "not the number of a refusal";
     }
 }
@@ -108,6 +113,13 @@ static inline size_t hmsr_card_room(size_t n, size_t k, size_t layers) {
 #define HMSR_PLAN_TEXT 2049
 
 /* The calls. */
+
+/* Chooses layers for an archive that is to survive these losses: the fewest from 1 to 15 that are, for each loss h in the list, a multiple
+ * of its s (see HMSR_PART_BATCH), so that no call of a repair of h dead nodes turns back with 3. The list may have any length, in any
+ * order, with repeats; an empty one, whose pointer may be null, needs 1. Returns a refusal number (1 for n or k, 2, 11), below 256; or
+ * 256 + the layers. */
+size_t hmsr_layers(size_t n, size_t k,
+                   const size_t *losses, size_t losses_length);
 
 /* Writes a transcript of at most k * N bytes into n * N symbols. Turns back with 1, 4. */
 size_t hmsr_write(size_t n, size_t k, size_t layers,

@@ -1,6 +1,7 @@
 #!/usr/bin/env python3
 """What rust/tests/stored.rs must make of the samples of document 01 ("Samples on both edges"), its numbers written down,
-and of a card with a hearing number (document 02 §9), worked out by hand.
+of a card with a hearing number (document 02 §9), worked out by hand, and of lists of losses (document 02 §6), by its
+sentences and by hand.
 
     python3 tests/samples_expected.py > tests/stored/samples.txt
 
@@ -44,3 +45,10 @@ show(6, *[9] * 8)
 show(7, 9)
 # n=3, k=1, h=2 gives 2; n=4, k=1, h=2: L=1 gives 3, L=3 is accepted
 show(2, 3, 0)
+# losses (document 02 §6), 256 + L or a refusal: n=12, k=6, "2 and 4 give 15", as 4 2 4 4 2 too, "the empty list gives 1";
+# n=12, k=5, "2 and 6 need 21" and give 11
+show(271, 271, 257, 11)
+# n=4, k=1 allows 1 and 2 dead nodes: 3 gives 2; n=12, k=5 allows 6: 2 6 7 gives 2, for 11 is "judged after 2"; n=2 gives 1
+show(2, 2, 1)
+# n=12, k=1: for 10 dead nodes h+1 is 11, and L too; 2 asks for a multiple of 3 besides, 33 at least: 11
+show(267, 11)

@@ -19,6 +19,8 @@ const DEAD_COUNTS: [usize; 4] = [1, 2, 3, 5];
 /// The largest archive, 3 440 640 symbols, takes the naive implementation long: it loses three nodes only.
 const LARGEST: (usize, usize, usize) = (14, 8, 15);
 const LARGEST_DEAD_COUNTS: [usize; 1] = [3];
+/// The lengths of the lists that layers are chosen for, at n = 14 and k = 1.
+const LOSS_COUNTS: [usize; 2] = [12, 1_000_000];
 const ROUNDS: usize = 5;
 
 /// A line of a round goes on until it has so many runs of each side, or else the least number and this time.
@@ -323,6 +325,20 @@ fn bench_plan(table: &mut Table, written: &Written, choice: &Choice) {
     assert_eq!(&text[..length], naive::plan(&input).as_bytes());
 }
 
+/// A "symbol" of a list is a loss in it; no transcript is behind it. The losses are those that fifteen layers serve, over
+/// and over.
+fn bench_layers(table: &mut Table, count: usize) {
+    let losses: Vec<usize> = [1, 2, 3, 4, 5, 7, 9, 11].into_iter().cycle().take(count).collect();
+    table.line(
+        format!("(14, 1) layers, {count} losses"),
+        count,
+        0,
+        || Shape::for_losses(14, 1, black_box(&losses)).unwrap(),
+        || naive::layers(14, 1, black_box(&losses)).unwrap(),
+    );
+    assert_eq!(Shape::for_losses(14, 1, &losses).map(|shape| shape.layers).ok(), naive::layers(14, 1, &losses).ok());
+}
+
 fn bench_shape(table: &mut Table, shape: (usize, usize, usize), dead_counts: &[usize]) {
     let written = Written::new(shape);
     bench_code(table, &written);
@@ -340,6 +356,7 @@ fn main() {
             bench_shape(&mut table, shape, &DEAD_COUNTS);
         }
         bench_shape(&mut table, LARGEST, &LARGEST_DEAD_COUNTS);
+        LOSS_COUNTS.iter().for_each(|&count| bench_layers(&mut table, count));
     }
     table.print();
 }

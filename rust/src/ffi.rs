@@ -46,6 +46,7 @@ extern "C" {
         card: *const u8, card_len: usize, symbols: *mut u16, symbols_len: usize, header: *mut usize, header_len: usize,
     ) -> usize;
     fn hmsr_plan(input: *const u8, input_len: usize, text: *mut u8, text_len: usize) -> usize;
+    fn hmsr_layers(n: usize, k: usize, losses: *const usize, losses_len: usize) -> usize;
 }
 
 pub(crate) fn write(s: Shape, transcript: &[u8], nodes: &mut [u16]) -> usize {
@@ -207,4 +208,9 @@ pub(crate) fn unpack(card: &[u8], symbols: &mut [u16], header: &mut [usize]) -> 
 pub(crate) fn plan(input: &[u8], text: &mut [u8]) -> usize {
     // SAFETY: see the top of this file.
     unsafe { hmsr_plan(input.as_ptr(), input.len(), text.as_mut_ptr(), text.len()) }
+}
+
+pub(crate) fn layers(nodes: usize, data: usize, losses: &[usize]) -> usize {
+    // SAFETY: see the top of this file.
+    unsafe { hmsr_layers(nodes, data, losses.as_ptr(), losses.len()) }
 }

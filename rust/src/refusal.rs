@@ -8,7 +8,7 @@ pub enum Refusal {
     /// The number of nodes, of data nodes or of layers is outside its range.
     BadShape = 1,
     /// A node not below the number of nodes, a list that is not strictly rising or of the wrong count, dead nodes that
-    /// help, or a named node that is not in its list.
+    /// help, a named node that is not in its list, or a loss outside 1 to nodes - data - 1.
     BadNodes = 2,
     /// The number of layers is not a multiple of the layers of a batch.
     PartBatch = 3,
@@ -20,11 +20,13 @@ pub enum Refusal {
     Malformed = 6,
     /// The symbols are not those of a transcript of that length.
     NoTranscript = 7,
+    /// No number of layers up to 15 serves every loss in the list.
+    NoLayers = 11,
 }
 
 impl Refusal {
     /// All causes, by their numbers.
-    pub const ALL: [Refusal; 7] = [
+    pub const ALL: [Refusal; 8] = [
         Refusal::BadShape,
         Refusal::BadNodes,
         Refusal::PartBatch,
@@ -32,9 +34,10 @@ impl Refusal {
         Refusal::BadSymbol,
         Refusal::Malformed,
         Refusal::NoTranscript,
+        Refusal::NoLayers,
     ];
 
-    /// The cause's number, 1 to 7.
+    /// The cause's number: 1 to 7, or 11.
     ///
     /// ```
     /// assert_eq!(hmsr::Refusal::PartBatch.number(), 3);
@@ -62,12 +65,13 @@ impl fmt::Display for Refusal {
     fn fmt(&self, f: &mut fmt::Formatter<'_>) -> fmt::Result {
         f.write_str(match self {
             Refusal::BadShape => "there must be 3 to 14 nodes, 1 to nodes - 2 data nodes and 1 to 15 layers",
-            Refusal::BadNodes => "the node lists are not as they should be",
+            Refusal::BadNodes => "the node lists, or the losses, are not as they should be",
             Refusal::PartBatch => "the number of layers is not a multiple of the layers of a batch",
             Refusal::WrongLength => "a buffer is not of the exact length, or the transcript is too long",
             Refusal::BadSymbol => "a symbol is above 256",
             Refusal::Malformed => "the card or the input is malformed",
             Refusal::NoTranscript => "the symbols are not those of a transcript of that length",
+            Refusal::NoLayers => "no number of layers from 1 to 15 serves every loss in the list",
         })
     }
 }

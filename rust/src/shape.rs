@@ -1,6 +1,6 @@
 //! The shape of an archive, and the sizes that follow from it.
 use crate::ffi;
-use crate::Refusal;
+use crate::refusal::{found, Refusal};
 
 /// How an archive is laid out. The fields may hold anything: each call judges them, and refuses a shape outside the
 /// ranges with [`Refusal::BadShape`].
@@ -31,6 +31,27 @@ impl Shape {
     pub fn new(nodes: usize, data: usize, layers: usize) -> Result<Shape, Refusal> {
         let shape = Shape { nodes, data, layers };
         shape.judge().map(|()| shape)
+    }
+
+    /// The shape with the fewest layers that serves each of these losses: an archive of it can have that many nodes
+    /// repaired in one go. The list may have any length, in any order, with repeats; no losses need one layer.
+    ///
+    /// ```
+    /// use hmsr::{Refusal, Shape};
+    /// assert_eq!(Shape::for_losses(12, 6, &[2, 4]), Shape::new(12, 6, 15));
+    /// assert_eq!(Shape::for_losses(12, 6, &[]), Shape::new(12, 6, 1));
+    /// assert_eq!(Shape::for_losses(4, 1, &[3]), Err(Refusal::BadNodes));
+    /// assert_eq!(Shape::for_losses(12, 5, &[2, 6]), Err(Refusal::NoLayers)); // they need 21
+    /// ```
+    ///
+    /// # Errors
+    ///
+    /// [`Refusal::BadShape`] where `nodes` or `data` is outside its range; [`Refusal::BadNodes`] where a loss is not
+    /// 1 to nodes - data - 1; [`Refusal::NoLayers`] where no number of layers up to 15 serves them all. Judged in this
+    /// order.
+    pub fn for_losses(nodes: usize, data: usize, losses: &[usize]) -> Result<Shape, Refusal> {
+        let layers = found(ffi::layers(nodes, data, losses))?;
+        Ok(Shape { nodes, data, layers })
     }
 
     /// Refuses a shape outside the ranges. The library says so: the check of no symbols judges the shape first, and

@@ -5,6 +5,8 @@ use std::os::unix::fs::{symlink, PermissionsExt};
 
 #[path = "cli/arguments.rs"]
 mod arguments;
+#[path = "cli/choice.rs"]
+mod choice;
 #[path = "cli/faults.rs"]
 mod faults;
 #[path = "cli/files.rs"]
@@ -15,6 +17,8 @@ mod hearing;
 mod json;
 #[path = "cli/kills.rs"]
 mod kills;
+#[path = "cli/losses.rs"]
+mod losses;
 #[path = "cli/names.rs"]
 mod names;
 #[path = "cli/options.rs"]

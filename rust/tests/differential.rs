@@ -30,12 +30,12 @@ impl Drop for Seed {
 /// hundred cases at least.
 fn try_cases(count: usize, numbers: &[Number], mut case: impl FnMut(&mut Random) -> Number) {
     let first = std::env::var("HMSR_SEED").map_or(1, |seed| seed.parse().expect("a number"));
-    let mut tally = [0; 11];
+    let mut tally = [0; 12];
     for seed in first..first + count as u64 {
         let seed = Seed(seed);
         tally[case(&mut Random::new(seed.0))] += 1;
     }
-    println!("numbers 0 to 10 came up {tally:?}");
+    println!("numbers 0 to 11 came up {tally:?}");
     for (number, &times) in tally.iter().enumerate() {
         assert_eq!(numbers.contains(&number), times > count / 200, "number {number} came up {times} times");
     }
@@ -602,6 +602,55 @@ fn plan() {
         let text_length = if random.once_in(20) { hmsr::PLAN_TEXT - 1 } else { hmsr::PLAN_TEXT + random.below(9) };
         compare::plan(random, &input, text_length)
     });
+}
+
+#[test]
+fn layers() {
+    try_cases(20000, &[0, 1, 2, 11], |random| {
+        let (mut shape, mut losses) = random.losses();
+        if random.once_in(4) {
+            random.spoil_losses(shape, &mut losses);
+        }
+        if random.once_in(8) {
+            random.spoil_shape(&mut shape);
+        }
+        compare::layers(shape.n, shape.k, &losses)
+    });
+}
+
+/// Every n and k, each with every set of the losses that they allow.
+#[test]
+fn layers_for_every_set_of_losses() {
+    let mut tally = [0; 12];
+    for (n, k) in (3..=14).flat_map(|n| (1..=n - 2).map(move |k| (n, k))) {
+        for set in 0..1usize << (n - k - 1) {
+            let losses: Vec<usize> = (1..n - k).filter(|h| set >> (h - 1) & 1 == 1).collect();
+            tally[compare::layers(n, k, &losses)] += 1;
+        }
+    }
+    println!("numbers 0 to 11 came up {tally:?}");
+    // The sum of 2^(n-k-1) over all n and k; some layers serve each set, or none do.
+    assert_eq!(tally[0] + tally[11], 16_356);
+    assert!(tally[0] > 1000 && tally[11] > 1000);
+}
+
+/// Every n and k around their ranges and far beyond, with every list of up to two such numbers.
+#[test]
+fn layers_for_every_two_numbers() {
+    let numbers = || (0..=16).chain([(1 << 32) + 2, 1 << 63, usize::MAX]);
+    let pairs = || numbers().flat_map(|first| numbers().map(move |second| [first, second]));
+    let mut tally = [0; 12];
+    for [n, k] in pairs() {
+        tally[compare::layers(n, k, &[])] += 1;
+        for loss in numbers() {
+            tally[compare::layers(n, k, &[loss])] += 1;
+        }
+        for losses in pairs() {
+            tally[compare::layers(n, k, &losses)] += 1;
+        }
+    }
+    println!("numbers 0 to 11 came up {tally:?}");
+    assert!([0, 1, 2, 11].iter().all(|&number: &usize| tally[number] > 100));
 }
 
 /// The ends of the range of shapes, with fifteen layers: written, checked, restored, opened, repaired, packed.

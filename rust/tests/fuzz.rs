@@ -1,6 +1,6 @@
-//! Random and mutated cards, what is packed into them, and plan inputs, library beside naive implementation, for as many
-//! seconds each as the environment's HMSR_FUZZ_SECONDS says (3 if it says nothing). HMSR_SEED=.. makes another series of
-//! inputs.
+//! Random and mutated cards, what is packed into them, plan inputs, and lists of losses, library beside naive
+//! implementation, for as many seconds each as the environment's HMSR_FUZZ_SECONDS says (3 if it says nothing).
+//! HMSR_SEED=.. makes another series of inputs.
 
 #[path = "naive/compare.rs"]
 mod compare;
@@ -17,18 +17,18 @@ fn from_environment(name: &str, otherwise: u64) -> u64 {
 }
 
 /// Tries inputs made by `make` until the time is over; prints how many, and the input of a failure.
-fn fuzz<T: Debug>(make: fn(&mut Random) -> T, compare: impl Fn(&mut Random, &T) -> usize) -> [usize; 10] {
+fn fuzz<T: Debug>(make: fn(&mut Random) -> T, compare: impl Fn(&mut Random, &T) -> usize) -> [usize; 12] {
     let mut random = Random::new(from_environment("HMSR_SEED", 1));
     let time = Duration::from_secs(from_environment("HMSR_FUZZ_SECONDS", 3));
     let start = Instant::now();
-    let mut tally = [0; 10];
+    let mut tally = [0; 12];
     while start.elapsed() < time {
         for _ in 0..100 {
             let input = Shown(make(&mut random));
             tally[compare(&mut random, &input.0)] += 1;
         }
     }
-    println!("numbers 0 to 9 came up {tally:?}");
+    println!("numbers 0 to 11 came up {tally:?}");
     tally
 }
 
@@ -189,6 +189,46 @@ fn plan_input(random: &mut Random) -> Vec<u8> {
 fn plans() {
     let tally = fuzz(plan_input, |random, input| compare::plan(random, input, hmsr::PLAN_TEXT));
     for number in [0, 1, 2, 3, 6] {
+        assert!(tally[number] > 0, "number {number} never came up");
+    }
+}
+
+/// What layers are chosen from.
+#[derive(Debug)]
+struct Losses {
+    n: usize,
+    k: usize,
+    losses: Vec<usize>,
+}
+
+/// A number of the kind that matters: small, small but for one bit, or any.
+fn number(random: &mut Random) -> usize {
+    let small = random.below(17);
+    let flipped = small ^ (1 << random.below(64));
+    let any = random.next() as usize;
+    random.choose(&[small, small, small, flipped, any, usize::MAX - small])
+}
+
+/// Numbers at random, or losses that n and k allow, with some of all numbers changed.
+fn losses(random: &mut Random) -> Losses {
+    if random.once_in(8) {
+        let (n, k, count) = (number(random), number(random), random.below(12));
+        return Losses { n, k, losses: (0..count).map(|_| number(random)).collect() };
+    }
+    let (Shape { n, k, .. }, mut losses) = random.losses();
+    losses.truncate(40);
+    let mut numbers = [&[n, k], &losses[..]].concat();
+    for _ in 0..random.choose(&[0, 0, 1, 1, 2, 3]) {
+        let at = random.below(numbers.len());
+        numbers[at] = number(random);
+    }
+    Losses { n: numbers[0], k: numbers[1], losses: numbers.split_off(2) }
+}
+
+#[test]
+fn lists_of_losses() {
+    let tally = fuzz(losses, |_, input| compare::layers(input.n, input.k, &input.losses));
+    for number in [0, 1, 2, 11] {
         assert!(tally[number] > 0, "number {number} never came up");
     }
 }

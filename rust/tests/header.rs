@@ -28,6 +28,7 @@ fn assert_header(output: &str) {
     let mut lines = output.lines();
     assert_constants(&mut lines);
     assert_cards(&mut lines);
+    assert_eq!(lines.next(), Some(LAYERS));
     for number in numbers() {
         assert_eq!(lines.next(), Some(text(number).as_str()), "the text of {number}");
     }
@@ -47,11 +48,15 @@ fn assert_header(output: &str) {
 fn assert_constants(lines: &mut Lines) {
     let version = env!("CARGO_PKG_VERSION");
     assert_eq!(lines.next(), Some(format!("{version} {version}").as_str()));
-    for (cause, number) in Refusal::ALL.into_iter().zip(1..) {
+    for (cause, number) in Refusal::ALL.into_iter().zip([1, 2, 3, 4, 5, 6, 7, 11]) {
         assert_eq!(lines.next(), Some(format!("{cause:?} {number}").as_str()));
     }
     assert_eq!(lines.next(), Some(format!("6 {}", hmsr::PLAN_TEXT).as_str()));
 }
+
+/// What choosing layers gives (document 02 §6): 256 and 15 for losses of 2 and 4 nodes, either first, and 1 for no losses,
+/// with a null pointer or another, and 11 for ten nodes; then the refusals 11, 2, 2 and 1.
+const LAYERS: &str = "271 271 257 257 267 11 2 2 1";
 
 /// What packing document 01's card gives with no hearing number, with 700, with 1 000 000 and with the largest number, and
 /// the header of each card that was made.

@@ -1,6 +1,6 @@
 //! Every cause of every call, alone and with each other cause: the number of the one that document 01 judges first, and
-//! every lent buffer as it was. The numbers here are written out from document 01, and from document 02 §9 for hearing
-//! numbers.
+//! every lent buffer as it was. The numbers here are written out from document 01, and from document 02, §6 for lists of
+//! losses and §9 for hearing numbers.
 
 mod naive;
 
@@ -220,11 +220,11 @@ fn changed<T: Clone>(input: &T, changes: &[fn(&mut T)]) -> T {
 }
 
 /// "Elsewhere than in cards and the plan program, several causes yield the first by 1, 2, 3, 4, 5, .., 7" (8 between
-/// them is dropped by document 02 §11).
-fn in_order(causes: &[&[Cause]]) -> Vec<Cause> {
+/// them is dropped by document 02 §11), and 11 is "judged after 2" (document 02 §6).
+fn in_order<T>(causes: &[&[Cause<T>]]) -> Vec<Cause<T>> {
     let causes = causes.concat();
-    let ranks: Vec<_> = causes.iter().map(|cause| [1, 2, 3, 4, 5, 7].iter().position(|n| *n == cause.1)).collect();
-    assert!(ranks.is_sorted());
+    let ranks: Vec<_> = causes.iter().map(|cause| [1, 2, 11, 3, 4, 5, 7].iter().position(|n| *n == cause.1)).collect();
+    assert!(ranks.iter().all(Option::is_some) && ranks.is_sorted());
     causes
 }
 
@@ -634,5 +634,67 @@ fn a_short_text_buffer_is_not_touched() {
         let mut text = Lent::bytes(&mut Random::new(1), length);
         assert_eq!(hmsr::plan(&accepted_plan().bytes(), text.slice()), Err(hmsr::Refusal::WrongLength));
         text.assert_holds(&[]);
+    }
+}
+
+/// What layers are chosen from.
+#[derive(Clone, PartialEq)]
+struct Losses {
+    nodes: usize,
+    data: usize,
+    losses: [usize; 16],
+}
+
+/// Each bad loss has a place of its own: in front of, between and behind those that the causes of 11 put there.
+const LOSSES: &[Cause<Losses>] = &[
+    ("n is 2", 1, |l| l.nodes = 2),
+    ("n is 15", 1, |l| l.nodes = 15),
+    ("n is 2^32 + 14", 1, |l| l.nodes = (1 << 32) + 14),
+    ("n is 2^63", 1, |l| l.nodes = 1 << 63),
+    ("n is the largest number", 1, |l| l.nodes = usize::MAX),
+    ("k is 0", 1, |l| l.data = 0),
+    ("k is n - 1", 1, |l| l.data = 13),
+    ("k is 2^32 + 4", 1, |l| l.data = (1 << 32) + 4),
+    ("k is the largest number", 1, |l| l.data = usize::MAX),
+    ("the first loss is n - k", 2, |l| l.losses[0] = 10),
+    ("a loss is 0", 2, |l| l.losses[1] = 0),
+    ("a loss is 14", 2, |l| l.losses[4] = 14),
+    ("a loss is 2^32 + 1", 2, |l| l.losses[5] = (1 << 32) + 1),
+    ("a loss is 256 + 3", 2, |l| l.losses[8] = 256 + 3),
+    ("a loss is 2^63", 2, |l| l.losses[9] = 1 << 63),
+    ("a loss is 2^63 + 7", 2, |l| l.losses[12] = (1 << 63) + 7),
+    ("a loss is the largest number", 2, |l| l.losses[13] = usize::MAX),
+    ("a loss is n - k", 2, |l| l.losses[14] = 10),
+    ("the last loss is 0", 2, |l| l.losses[15] = 0),
+    ("2 and 6 need 21", 11, |l| (l.losses[2], l.losses[10]) = (2, 6)),
+    ("4 and 6 need 35", 11, |l| (l.losses[3], l.losses[11]) = (4, 6)),
+    ("8 and 4 need 45", 11, |l| (l.losses[6], l.losses[7]) = (8, 4)),
+];
+
+fn layers_number(input: &Losses) -> usize {
+    let chosen = Shape::for_losses(input.nodes, input.data, &input.losses);
+    chosen.err().map_or(0, Refusal::number)
+}
+
+/// n = 14, k = 4: losses of 1 to 9 nodes are allowed, and for 1, 3 and 7 one layer does.
+#[test]
+fn layers() {
+    let losses = [1, 3, 7, 1, 3, 7, 1, 3, 7, 1, 3, 7, 1, 3, 7, 1];
+    try_causes(Losses { nodes: 14, data: 4, losses }, &in_order(&[LOSSES]), layers_number);
+}
+
+/// A loss outside 1 to n−k−1 at each place of a list that no layers serve, and n or k out of range besides.
+#[test]
+fn a_bad_loss_comes_before_no_layers_wherever_it_stands() {
+    for at in 0..=2 {
+        for bad in [0, 7, 8, 14, (1 << 32) + 2, (1 << 32) + 6, 1 << 63, usize::MAX] {
+            let mut losses = vec![2, 6];
+            assert_eq!(Shape::for_losses(12, 5, &losses), Err(Refusal::NoLayers));
+            losses.insert(at, bad);
+            assert_eq!(Shape::for_losses(12, 5, &losses), Err(Refusal::BadNodes), "{losses:?}");
+            for (nodes, data) in [(2, 5), (15, 5), (12, 0), (12, 11), (usize::MAX, 5), (12, usize::MAX)] {
+                assert_eq!(Shape::for_losses(nodes, data, &losses), Err(Refusal::BadShape), "{losses:?}");
+            }
+        }
     }
 }

@@ -1,6 +1,7 @@
-//! The stack that a call needs stays small and does not grow with the archive: each call that works on an archive is
-//! made at the largest shapes by a thread with little stack, and its results are held to what was written. A call that
-//! needs more stack ends the whole test program, which names the thread: each thread has the name of its call.
+//! The stack that a call needs stays small and does not grow with the archive or with a list of losses: each call that
+//! works on an archive is made at the largest shapes by a thread with little stack, and its results are held to what was
+//! written; layers are chosen for a long list. A call that needs more stack ends the whole test program, which names the
+//! thread: each thread has the name of its call.
 
 use hmsr::{unpack, Checked, Header, Refusal, Shape};
 use std::thread;
@@ -214,4 +215,12 @@ fn repaired() {
             assert!(repair.whole() == repair.by_steps(), "{shape:?}, {dead} dead");
         }
     }
+}
+
+/// A list of 8 MB, whose losses ask for fifteen layers.
+#[test]
+fn layers_chosen() {
+    let losses: Vec<usize> = [1, 2, 3, 4, 5, 7, 9, 11].into_iter().cycle().take(1_000_000).collect();
+    let shape = with_little_stack("layers", || Shape::for_losses(14, 1, &losses));
+    assert_eq!(shape, Shape { nodes: 14, data: 1, layers: 15 });
 }

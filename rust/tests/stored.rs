@@ -1,11 +1,12 @@
-//! The cases whose outcome the programs of `tests/` work out from documents 01 and 02 (§7, §9) alone, run through the
-//! library: each line of a stored file has to come out as it stands there.
+//! The cases whose outcome the programs of `tests/` work out from documents 01 and 02 (§6, §7, §9) alone, run through
+//! the library: each line of a stored file has to come out as it stands there.
 
 mod stored {
     pub mod card;
     pub mod code;
     pub mod digest;
     pub mod forms;
+    pub mod layers;
     pub mod plan;
     pub mod repair;
     pub mod samples;
@@ -13,7 +14,7 @@ mod stored {
     pub mod trial;
 }
 
-use stored::{card, code, plan, repair, samples, steps};
+use stored::{card, code, layers, plan, repair, samples, steps};
 
 /// Tells the first line that differs.
 fn assert_stored(made: &str, stored: &str) {
@@ -24,7 +25,7 @@ fn assert_stored(made: &str, stored: &str) {
 }
 
 #[test]
-fn samples_of_document_01() {
+fn samples_of_the_documents() {
     assert_stored(&samples::lines(), include_str!("../../tests/stored/samples.txt"));
 }
 
@@ -51,4 +52,9 @@ fn cards() {
 #[test]
 fn plans() {
     assert_stored(&plan::lines(), include_str!("../../tests/stored/plan.txt"));
+}
+
+#[test]
+fn lists_of_losses() {
+    assert_stored(&layers::lines(), include_str!("../../tests/stored/layers.txt"));
 }

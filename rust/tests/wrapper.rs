@@ -122,6 +122,29 @@ fn every_call_judges_every_shape() {
     }
 }
 
+/// n and k: there are no layers to be judged. Both are judged before a loss that no archive can have.
+#[test]
+fn choosing_layers_judges_every_n_and_k() {
+    for Shape { nodes, data, .. } in hostile_shapes() {
+        let shape = Shape { nodes, data, layers: 1 };
+        let (no_losses, bad_loss) = if within_ranges(shape) {
+            (Ok(shape), Err(Refusal::BadNodes))
+        } else {
+            (Err(Refusal::BadShape), Err(Refusal::BadShape))
+        };
+        assert_eq!(Shape::for_losses(nodes, data, &[]), no_losses);
+        assert_eq!(Shape::for_losses(nodes, data, &[usize::MAX]), bad_loss);
+    }
+}
+
+/// Ten dead nodes need eleven layers, and 11 is also the number of a refusal.
+#[test]
+fn the_layers_found_are_told_from_a_refusal() {
+    assert_eq!(Shape::for_losses(12, 1, &[10]), Ok(Shape { nodes: 12, data: 1, layers: 11 }));
+    assert_eq!(Shape::for_losses(12, 1, &[10, 2]), Err(Refusal::NoLayers));
+    assert_eq!(Shape::for_losses(12, 1, &[10, 11]), Err(Refusal::BadNodes));
+}
+
 #[test]
 fn conveniences_and_sizes_judge_every_shape() {
     for shape in hostile_shapes() {
@@ -350,11 +373,13 @@ fn a_plan_needs_its_room_and_no_more_is_touched() {
 
 #[test]
 fn refusals_have_their_numbers_and_one_sentence() {
-    for (place, cause) in Refusal::ALL.into_iter().enumerate() {
-        assert_eq!(cause.number(), place + 1);
-        assert_eq!(Refusal::from_number(place + 1), Some(cause));
+    let numbers = [1, 2, 3, 4, 5, 6, 7, 11];
+    assert_eq!(Refusal::ALL.map(Refusal::number), numbers);
+    for cause in Refusal::ALL {
+        assert_eq!(Refusal::from_number(cause.number()), Some(cause));
         assert!(!cause.to_string().is_empty() && !cause.to_string().contains('\n'));
     }
-    assert_eq!(Refusal::from_number(0), None);
-    assert_eq!(Refusal::from_number(9), None);
+    for number in (0..300).chain([256 + (1 << 32), usize::MAX]).filter(|number| !numbers.contains(number)) {
+        assert_eq!(Refusal::from_number(number), None);
+    }
 }

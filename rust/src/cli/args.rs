@@ -5,6 +5,9 @@ use std::path::Path;
 
 use super::{Command, Failure};
 
+/// The option that names sizes of loss.
+const LOSSES: &str = "--losses";
+
 #[derive(Default)]
 pub struct Args {
     words: Vec<OsString>,
@@ -99,20 +102,34 @@ impl Args {
         self.number(name)?.ok_or_else(|| missing(name))
     }
 
-    /// An option's node numbers, rising and each once, where they are given.
+    /// An option's numbers, rising and each once, where they are given: in lists of nodes and in lists of losses, order
+    /// and repeats say nothing.
     pub fn list(&self, name: &str) -> Result<Option<Vec<usize>>, Failure> {
         let Some(value) = self.option(name) else {
             return Ok(None);
         };
-        let mut nodes = value.split(',').map(|node| number(name, node.trim())).collect::<Result<Vec<_>, _>>()?;
-        nodes.sort_unstable();
-        nodes.dedup();
-        Ok(Some(nodes))
+        let mut numbers = value.split(',').map(|part| number(name, part.trim())).collect::<Result<Vec<_>, _>>()?;
+        numbers.sort_unstable();
+        numbers.dedup();
+        Ok(Some(numbers))
     }
 
-    /// An option's node numbers, rising.
+    /// An option's numbers, rising and each once.
     pub fn required_list(&self, name: &str) -> Result<Vec<usize>, Failure> {
         self.list(name)?.ok_or_else(|| missing(name))
+    }
+
+    /// The losses, where they are given. An empty value is the empty list: losses may be none, nodes not.
+    pub fn losses(&self) -> Result<Option<Vec<usize>>, Failure> {
+        match self.option(LOSSES) {
+            Some(value) if value.trim().is_empty() => Ok(Some(Vec::new())),
+            _ => self.list(LOSSES),
+        }
+    }
+
+    /// The losses.
+    pub fn required_losses(&self) -> Result<Vec<usize>, Failure> {
+        self.losses()?.ok_or_else(|| missing(LOSSES))
     }
 }
 

@@ -6,7 +6,7 @@ use std::path::{Path, PathBuf};
 
 use hmsr::{unpack_to_vec, Header, Refusal};
 
-use super::layers::MOST_LAYERS;
+use super::choice::MOST_LAYERS;
 use super::{files, Failure};
 
 /// "n may be 3 to 14".

@@ -8,6 +8,7 @@ use std::process;
 use super::args::Args;
 use super::card_files::card_path;
 use super::cards::Cards;
+use super::choice::Layers;
 use super::repair::Wanted;
 use super::text::{listed, shown};
 use super::{open, repair, traffic, write, Failure, Report};
@@ -28,7 +29,7 @@ pub fn run(_: &Args) -> Result<Report, Failure> {
     let mut report =
         format!("A transcript of {} bytes over {NODES} drives, any {DATA} of which give it back.\n", text.len());
     report += &format!("\n$ hmsr write transcript.txt drives --nodes {NODES} --data {DATA}\n");
-    let wanted = write::Wanted { nodes: NODES, data: DATA, layers: None, hearing: 0 };
+    let wanted = write::Wanted { nodes: NODES, data: DATA, layers: Layers::Best, hearing: 0 };
     report += &write::write(&transcript, &drives, &wanted)?;
     report += &format!("\nDrives {} are lost.\n\n$ hmsr repair drives\n", listed(&LOST));
     let written = lose(&drives)?;

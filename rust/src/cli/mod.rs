@@ -4,6 +4,7 @@ mod args;
 mod card_files;
 mod cards;
 mod check;
+mod choice;
 mod demo;
 mod failure;
 mod files;
@@ -59,12 +60,12 @@ struct Command {
     run: fn(&Args) -> Result<Report, Failure>,
 }
 
-const COMMANDS: [Command; 7] = [
+const COMMANDS: [Command; 8] = [
     Command {
         name: "write",
         words: &["FILE", "DIR"],
         repeats: false,
-        options: &["--nodes", "--data", "--layers", "--hearing"],
+        options: &["--nodes", "--data", "--layers", "--losses", "--hearing"],
         flags: &["--quiet"],
         run: write::run,
     },
@@ -84,6 +85,14 @@ const COMMANDS: [Command; 7] = [
         options: &["--dead", "--helpers"],
         flags: &["--dry-run", "--quiet"],
         run: repair::run,
+    },
+    Command {
+        name: "layers",
+        words: &[],
+        repeats: false,
+        options: &["--nodes", "--data", "--losses"],
+        flags: &["--json"],
+        run: layers::run,
     },
     Command {
         name: "plan",

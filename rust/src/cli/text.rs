@@ -39,6 +39,15 @@ pub fn nodes_listed(nodes: &[usize]) -> String {
     }
 }
 
+/// "a loss of 1 node", "losses of 2, 4 and 5 nodes".
+pub fn losses_listed(losses: &[usize]) -> String {
+    match losses {
+        [] => "no loss".to_string(),
+        [loss] => format!("a loss of {}", counted(*loss, "node")),
+        [others @ .., last] => format!("losses of {} and {last} nodes", listed(others)),
+    }
+}
+
 /// The line of a report that names the hearing, where there is a hearing number.
 pub fn hearing_line(hearing: usize) -> String {
     match hearing {

@@ -1,15 +1,15 @@
 //! How each command is called, as `--help` shows it.
 
 /// A command, how it is called and what it does.
-const USAGES: [(&str, &str); 7] = [
+const USAGES: [(&str, &str); 8] = [
     (
         "write",
         "\
-hmsr write FILE DIR --nodes N --data K [--layers L] [--hearing NUMBER] [--quiet]
+hmsr write FILE DIR --nodes N --data K [--layers L | --losses LIST] [--hearing NUMBER] [--quiet]
         write FILE into N cards, DIR/node-00.card and so on, any K of which give it back (N is 3 to 14, K is 1 to
-        N - 2; without --layers the best number from 1 to 15 is chosen), with the hearing NUMBER on every card (1 to
-        999999; 0, as without --hearing, is none); FILE - is standard input; a write that was killed is finished by
-        the same write again
+        N - 2), in L layers (1 to 15), or in the fewest with which a loss of each size in LIST is repaired in one go, or
+        else in the best number, with the hearing NUMBER on every card (1 to 999999; 0, as without --hearing, is none);
+        FILE - is standard input; a write that was killed is finished by the same write again
 ",
     ),
     (
@@ -33,6 +33,15 @@ hmsr open DIR OUT [--quiet]
 hmsr repair DIR [--dead LIST] [--helpers LIST] [--dry-run] [--quiet]
         make missing and unreadable cards anew, all of them or those in LIST, with the help of K + 1 others; LIST is
         node numbers with commas, as 0,3,7; with --dry-run, say so and change nothing
+",
+    ),
+    (
+        "layers",
+        "\
+hmsr layers --nodes N --data K --losses LIST [--json]
+        the fewest layers with which a loss of each size in LIST is repaired in one go, and the bytes that fit (a longer
+        transcript takes a multiple of them); LIST is numbers of lost nodes, 1 to N - K - 1, with commas, as 2,4, or
+        empty
 ",
     ),
     (

@@ -7,6 +7,7 @@ use hmsr::{Header, Shape};
 
 use super::args::Args;
 use super::card_files::{card_name, card_path, numbers_of_cards};
+use super::choice::{self, Layers};
 use super::files::{self, Pending};
 use super::temporary::{self, Temporary};
 use super::text::{counted, hearing_line, shown};
@@ -19,16 +20,25 @@ const MOST_HEARING: usize = 999_999;
 pub struct Wanted {
     pub nodes: usize,
     pub data: usize,
-    /// The best number where none is named.
-    pub layers: Option<usize>,
+    pub layers: Layers,
     /// The hearing number, 0 for none.
     pub hearing: usize,
 }
 
 pub fn run(args: &Args) -> Result<Report, Failure> {
     let (nodes, data) = (args.required_number("--nodes")?, args.required_number("--data")?);
-    let wanted = Wanted { nodes, data, layers: args.number("--layers")?, hearing: hearing(args)? };
+    let wanted = Wanted { nodes, data, layers: layers_asked(args, nodes, data)?, hearing: hearing(args)? };
     write(args.path(0), args.path(1), &wanted).map(Report::from)
+}
+
+/// The layers that are named, or those for the losses that are. Losses are judged here, before the transcript is read.
+fn layers_asked(args: &Args, nodes: usize, data: usize) -> Result<Layers, Failure> {
+    match (args.number("--layers")?, args.losses()?) {
+        (Some(_), Some(_)) => Err(Failure::argument("--layers and --losses: give only one of them")),
+        (Some(layers), None) => Ok(Layers::Named(layers)),
+        (None, Some(losses)) => Ok(Layers::MultipleOf(layers::for_losses(nodes, data, &losses)?.layers)),
+        (None, None) => Ok(Layers::Best),
+    }
 }
 
 /// The hearing number that is named, or 0. It is judged here, before the transcript is read; the library judges it when
@@ -44,24 +54,20 @@ fn hearing(args: &Args) -> Result<usize, Failure> {
 
 /// Writes the file's bytes into cards in the directory, which is made where it is not there.
 pub fn write(file: &Path, directory: &Path, wanted: &Wanted) -> Result<String, Failure> {
-    let &Wanted { nodes, data, hearing, .. } = wanted;
-    let bytes = transcript(file, layers::most_bytes(nodes, data)?)?;
+    let &Wanted { nodes, data, layers, hearing } = wanted;
+    let bytes = transcript(file, choice::most_bytes(nodes, data)?)?;
     // A transcript of more than the most bytes was not read; a length that no archive holds stands for it.
     let length = bytes.as_ref().map_or(usize::MAX, Vec::len);
-    let shape = match wanted.layers {
-        Some(layers) => layers::named(nodes, data, layers, length)?,
-        None => layers::choose(nodes, data, length)?,
-    };
+    let shape = choice::choose(nodes, data, layers, length)?;
     let cards = packed(shape, hearing, &bytes.unwrap_or_default())?;
     let finished = put_cards(directory, &cards)?;
     let gives = if data == 1 { "of them gives" } else { "of them give" };
     Ok(format!(
-        "wrote {} into {nodes} cards in {}: any {data} {gives} it back\n{}, {} bytes at most: {}\n{}{finished}",
+        "wrote {} into {nodes} cards in {}: any {data} {gives} it back\n{}, {}\n{}{finished}",
         counted(length, "byte"),
         shown(directory),
         counted(shape.layers, "layer"),
-        shape.capacity().unwrap_or(0),
-        layers::described(shape),
+        choice::described(shape),
         hearing_line(hearing)
     ))
 }

@@ -170,4 +170,6 @@ fn exit_statuses_are_those_of_the_readme() {
     assert_eq!(status("write transcript new --nodes 2 --data 1"), 3);
     assert_eq!(status("write nowhere new --nodes 6 --data 3"), 4);
     assert_eq!(status("plan --nodes 4 --data 1 --layers 1 --dead 0,1 --helpers 2,3"), 3);
+    assert_eq!(status("layers --nodes 12 --data 6 --losses 2,4"), 0);
+    assert_eq!(status("layers --nodes 12 --data 5 --losses 2,6"), 3);
 }

@@ -1,5 +1,5 @@
-/* Prints the header's constants, a card of each form with its header's numbers, the texts, and every size for all shapes and losses of the
- * numbers given, with what the library says to buffers of these sizes. It is compiled as C and as C++. */
+/* Prints the header's constants, a card of each form with its header's numbers, what choosing layers gives, the texts, and every size for
+ * all shapes and losses of the numbers given, with what the library says to buffers of these sizes. It is compiled as C and as C++. */
 #include <stdio.h>
 #include <stdlib.h>
 #include <string.h>
@@ -17,7 +17,7 @@ static void print_constants(void) {
     printf("%s %d.%d.%d\n", HMSR_VERSION, HMSR_VERSION_MAJOR, HMSR_VERSION_MINOR, HMSR_VERSION_PATCH);
     printf("BadShape %d\nBadNodes %d\nPartBatch %d\n", HMSR_BAD_SHAPE, HMSR_BAD_NODES, HMSR_PART_BATCH);
     printf("WrongLength %d\nBadSymbol %d\nMalformed %d\n", HMSR_WRONG_LENGTH, HMSR_BAD_SYMBOL, HMSR_MALFORMED);
-    printf("NoTranscript %d\n", HMSR_NO_TRANSCRIPT);
+    printf("NoTranscript %d\nNoLayers %d\n", HMSR_NO_TRANSCRIPT, HMSR_NO_LAYERS);
     printf("%d %d\n", HMSR_HEADER, HMSR_PLAN_TEXT);
 }
 
@@ -34,6 +34,15 @@ static void print_card(size_t hearing) {
     printf("%zu:", hmsr_unpack(card, packed - 256, back, 8, header, HMSR_HEADER));
     for (i = 0; i < HMSR_HEADER; i++) printf(" %zu", header[i]);
     printf("\n");
+}
+
+static void print_layers(void) {
+    const size_t losses[] = {2, 4, 2, 6, 10, SIZE_MAX};
+    printf("%zu %zu", hmsr_layers(12, 6, losses, 2), hmsr_layers(12, 6, losses + 1, 2));
+    printf(" %zu %zu", hmsr_layers(12, 6, NULL, 0), hmsr_layers(12, 6, losses, 0));
+    printf(" %zu %zu", hmsr_layers(12, 1, losses + 4, 1), hmsr_layers(12, 5, losses + 2, 2));
+    printf(" %zu %zu", hmsr_layers(12, 6, losses + 2, 2), hmsr_layers(12, 1, losses + 2, 4));
+    printf(" %zu\n", hmsr_layers(2, 1, losses, 6));
 }
 
 static void print_shape(size_t n, size_t k, size_t layers) {
@@ -63,6 +72,7 @@ int main(int count, char **words) {
     print_card(700);
     print_card(1000000);
     print_card(SIZE_MAX);
+    print_layers();
     for (i = 1; i < count && i < 64; i++) {
         numbers[i] = (size_t)strtoull(words[i], NULL, 10);
         printf("%s\n", hmsr_refusal_text(numbers[i]));

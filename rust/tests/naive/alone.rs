@@ -1,5 +1,5 @@
-//! The naive implementation checked on its own: the samples of document 01, the parity equations by
-//! their definition, transcripts opened from any nodes, and repairs.
+//! The naive implementation checked on its own: the samples of document 01, a card with a hearing number and lists of
+//! losses (document 02), the parity equations by their definition, transcripts opened from any nodes, and repairs.
 
 use super::naive::card::{put_number, take_number};
 use super::naive::code::point;
@@ -121,6 +121,22 @@ fn sample_refusals() {
     let mut node = [0; 8];
     node[0] = 87;
     assert_eq!(open(SMALL, &[1], &node, 1, 1), Err(7));
+}
+
+/// "2 and 4 give 15, the empty list gives 1, repeats change nothing. A value outside 1 to n−k−1 is 2 .. (2 and 6 need
+/// 21)" (document 02 §6).
+#[test]
+fn sample_losses() {
+    assert_eq!(layers(12, 6, &[2, 4]), Ok(15));
+    assert_eq!(layers(12, 6, &[4, 2, 2, 4, 4]), Ok(15));
+    assert_eq!(layers(12, 6, &[]), Ok(1));
+    assert_eq!(layers(12, 5, &[2, 6]), Err(11));
+    assert_eq!(layers(4, 1, &[3]), Err(2));
+    assert_eq!(layers(12, 6, &[2, 6]), Err(2));
+    assert_eq!(layers(2, 1, &[]), Err(1));
+    assert_eq!(layers(14, 13, &[0]), Err(1));
+    let alone: Vec<usize> = (1..=12).map(|h| layers(14, 1, &[h]).unwrap()).collect();
+    assert_eq!(alone, [1, 3, 1, 5, 3, 7, 1, 9, 5, 11, 3, 13]);
 }
 
 #[test]

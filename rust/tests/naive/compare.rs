@@ -162,6 +162,14 @@ pub fn unpack(random: &mut Random, card: &[u8], symbols_length: usize, header_le
     number
 }
 
+/// The layers that the library chooses for a list of losses are the naive ones.
+pub fn layers(n: usize, k: usize, losses: &[usize]) -> Number {
+    let expected = naive::layers(n, k, losses).map(|layers| library(Shape { n, k, layers }));
+    let answer = hmsr::Shape::for_losses(n, k, losses);
+    assert_eq!(answer.map_err(Refusal::number), expected);
+    answer.err().map_or(0, Refusal::number)
+}
+
 /// The number that the plan's text is, and 0 for a plan; 4 where the text buffer is too short.
 pub fn plan(random: &mut Random, input: &[u8], text_length: usize) -> Number {
     let mut text = Lent::bytes(random, text_length);

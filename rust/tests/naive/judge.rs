@@ -1,6 +1,6 @@
 //! The shape of an archive, and the causes 1 to 5 of "When a call turns back".
 
-/// A refusal number of document 01.
+/// A refusal number of documents 01 and 02.
 pub type Number = usize;
 
 #[derive(Clone, Copy, Debug, PartialEq, Eq)]

@@ -119,6 +119,29 @@ impl Random {
         (dead, helpers)
     }
 
+    /// n and k, with one layer, more often those that allow large losses; and losses that they allow, from none to
+    /// thousands, of up to four sizes, so that often some layers serve them all, and sometimes none do.
+    pub fn losses(&mut self) -> (Shape, Vec<usize>) {
+        let n = self.between(3, 14).max(self.between(3, 14));
+        let k = self.between(1, n - 2).min(self.between(1, n - 2));
+        let shape = Shape { n, k, layers: 1 };
+        let sizes: Vec<usize> = (0..self.between(1, 4)).map(|_| self.between(1, shape.equations() - 1)).collect();
+        let (few, many) = (self.below(8), self.below(5000));
+        let count = self.choose(&[0, 1, 2, few, few, few, few, many]);
+        (shape, (0..count).map(|_| self.choose(&sizes)).collect())
+    }
+
+    /// Puts losses that are out of range, or far off, among these.
+    pub fn spoil_losses(&mut self, shape: Shape, losses: &mut Vec<usize>) {
+        for _ in 0..self.between(1, 2) {
+            let near = self.between(1, shape.equations());
+            let far = self.hostile(near);
+            let loss = self.choose(&[0, shape.equations(), far, far, (1 << 32) + near, (1 << 63) + near, usize::MAX]);
+            let at = self.below(losses.len() + 1);
+            losses.insert(at, loss);
+        }
+    }
+
     /// A codeword of any symbols, 256 too: what random nodes 0 to k−1 restore to.
     pub fn codeword(&mut self, shape: Shape) -> Vec<u16> {
         let data = self.symbols(shape.capacity());

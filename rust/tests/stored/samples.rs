@@ -1,5 +1,5 @@
 //! The samples of document 01, and a card with a hearing number (document 02 §9): each call's answer and what it left in
-//! its buffers, a line for each.
+//! its buffers, a line for each; then the answers for lists of losses (document 02 §6), which fill no buffer.
 
 use super::digest::{line, number};
 use hmsr::{unpack, Header, Refusal, Repair, Shape};
@@ -76,6 +76,19 @@ fn two_lost(shape: Shape, helpers: &[usize]) -> u64 {
     number(Repair { shape, dead: &[0, 1], helpers }.repair(&mut [0; 192], &mut [0; 96])) as u64
 }
 
+/// 256 + the layers for these losses, as the C call has it, or the number of the cause.
+fn layers(nodes: usize, data: usize, losses: &[usize]) -> u64 {
+    found(Shape::for_losses(nodes, data, losses).map(|shape| 256 + shape.layers)) as u64
+}
+
+/// The lists of document 02 §6.
+fn chosen_layers() -> String {
+    let served = [layers(12, 6, &[2, 4]), layers(12, 6, &[4, 2, 4, 4, 2]), layers(12, 6, &[]), layers(12, 5, &[2, 6])];
+    let refused = [layers(4, 1, &[3]), layers(12, 5, &[2, 6, 7]), layers(2, 1, &[])];
+    let eleven = [layers(12, 1, &[10]), layers(12, 1, &[10, 2])];
+    line(&served) + &line(&refused) + &line(&eleven)
+}
+
 pub fn lines() -> String {
     let four = |layers| Shape { nodes: 4, data: 1, layers };
     let losses = [two_lost(TINY, &[2]), two_lost(four(1), &[2, 3]), two_lost(four(3), &[2, 3])];
@@ -95,6 +108,7 @@ pub fn lines() -> String {
         unpacked_hearing(&[0]),
         no_transcript(),
         line(&losses),
+        chosen_layers(),
     ]
     .concat()
 }
