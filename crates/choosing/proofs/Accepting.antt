@@ -8,7 +8,7 @@ use Prim.Native.Nat.{ℕ, _+_, _-_, _*_, _≤_, _<_}
 use native.Mathlib.Omega.{arith}
 use borrow.Author.Tests.{le-leb, eq-eqb, not-true, not-false}
 use lib.ListN.{length, getD, take, drop, length-take}
-use Rattle.lists.specs.Lists.{all, member, piece}
+use Rattle.lists.specs.Lists.{all, below, member, piece}
 use Rattle.lists.proofs.Tests.{both, at-all, at-all-below}
 use Rattle.lists.proofs.Members.{all-member, rising-below}
 use Rattle.lists.proofs.Flats.{piece-length, piece-at}
@@ -25,7 +25,7 @@ use Rattle.numbers.proofs.Numbers.{numbers-count}
 use Rattle.code.specs.Code.{narrow}
 use Rattle.code.specs.Archive.{Codeword}
 use Rattle.code.specs.Promises.{Writes}
-use Rattle.classes.specs.Classes.{batch, messageSize}
+use Rattle.classes.specs.Classes.{batch, node, messageSize}
 use Rattle.judging.specs.Refusals.{listsRefusal, messageRefusal, firstStepRefusal, secondStepRefusal, nodeGood, wholeRefusal}
 use Rattle.repair.specs.Promises.{HelperMessage, FirstStep, SecondStep, Repaired}
 use Rattle.transfers.specs.Plan.{line, textOr, leftOver, listsNumber, withNodes, withLists, shapeNumber, withShape, withFront, frontCount, printed}
@@ -61,7 +61,7 @@ module _ (n k : ℕ) (losses : List ℕ) (layers : ℕ) (chosen : Chooses n k lo
       let one = passed (countsBad n k) 0 _ (sym (chosen .number)) in
       (one .0, passed (lossesBad n k losses) 1 _ (one .1) .0)
 
-  pub chosen-shape : shapeBad shape ≡ false
+  chosen-shape : shapeBad shape ≡ false
   unfolding countsBad
   chosen-shape = let r = chosen .range layers refl in other-layers n k 1 layers (counts-passed .0) (r .0) (r .1)
 
@@ -75,9 +75,15 @@ module _ (n k : ℕ) (losses : List ℕ) (layers : ℕ) (chosen : Chooses n k lo
       let m : e < size shape = rw (← piece-length (size shape) i nodes (omega (arith, room, word .long))) l in
       rw (piece-at (size shape) i nodes e 0 m) (word .small (i * size shape + e) (omega (arith, room, word .long))))
 
+  -- it looks at the node's symbols alone
+  node-alike : (nodes others : List ℕ) (i : ℕ) → piece (size shape) i nodes ≡ piece (size shape) i others
+      → nodeGood narrow shape nodes i ≡ nodeGood narrow shape others i
+  unfolding nodeGood
+  node-alike nodes others i e = ap (all (below (narrow .modulus))) e
+
   -- a loss of a size that the list has
   module _ (dead helpers : List ℕ) (named : member (length dead) losses ≡ true) where
-    pub chosen-layers : layersBad layers (batch dead) ≡ false
+    chosen-layers : layersBad layers (batch dead) ≡ false
     unfolding serves batch
     chosen-layers = not-true _ (says-serves layers (length dead) (chosen .served layers refl (length dead) named))
 
@@ -124,22 +130,30 @@ module _ (n k : ℕ) (losses : List ℕ) (layers : ℕ) (chosen : Chooses n k lo
         || wrongLength (length before) (size shape))
         (symbolBad (narrow .modulus) pairs || symbolBad (narrow .modulus) received) (p .number)
 
-    -- an archive written with that L is repaired, whichever dead and helpers of such a size
-    pub written-repaired : (bytes before nodes nodes-after wire wire-after : List ℕ) (answer : Answer) → Writes shape bytes before nodes Done
+    -- Of an archive written with that L the helpers still hold what was written on them, and the other nodes anything. It is repaired,
+    -- whichever dead and helpers of such a size: each dead node ends with what was written on it.
+    pub written-repaired : (bytes before written nodes nodes-after wire wire-after : List ℕ) (answer : Answer) → Writes shape bytes before written Done
+        → length nodes ≡ n * size shape
+        → ((j : ℕ) → j < length helpers → piece (size shape) (getD helpers j 0) nodes ≡ piece (size shape) (getD helpers j 0) written)
         → repairBad shape dead helpers ≡ false → length wire ≡ length dead * (k + length dead) * messageSize shape dead
-        → Repaired shape dead helpers nodes nodes-after wire wire-after answer → answer ≡ Done
+        → Repaired shape dead helpers nodes nodes-after wire wire-after answer
+        → (answer ≡ Done) × ((u : ℕ) → u < length dead → piece (size shape) (node dead u) nodes-after ≡ piece (size shape) (node dead u) written)
     unfolding wholeRefusal wrongLength
-    written-repaired bytes before nodes nodes-after wire wire-after answer w lists long p =
-        number-done answer
-        (p .number
-        ∙ lists-only false _
-        ∙ rw (lists, eq-eqb (length nodes) (n * size shape) (word .long), eq-eqb (length wire) _ long, at-all (nodeGood narrow shape nodes) helpers good) refl)
+    written-repaired bytes before written nodes nodes-after wire wire-after answer w full held lists long p =
+        (number-done answer (p .number ∙ none), p .whole none .exact written word held)
       where
-        word : Codeword narrow shape nodes
+        word : Codeword narrow shape written
         word = w .codeword refl
 
         good : (j : ℕ) → j < length helpers → nodeGood narrow shape nodes (getD helpers j 0) ≡ true
-        good j l = node-good nodes word (getD helpers j 0) (rising-below _ _ (repair-accepted shape dead helpers lists .helpers-rising) j l)
+        good j l =
+            node-alike nodes written (getD helpers j 0) (held j l)
+            ∙ node-good written word (getD helpers j 0) (rising-below _ _ (repair-accepted shape dead helpers lists .helpers-rising) j l)
+
+        none : wholeRefusal narrow shape dead helpers nodes (length wire) ≡ 0
+        none =
+            lists-only false _
+            ∙ rw (lists, eq-eqb (length nodes) (n * size shape) full, eq-eqb (length wire) _ long, at-all (nodeGood narrow shape nodes) helpers good) refl
 
   -- the plan accepts the layers for each value of the list: where its input starts with n, k, L and that value, it prints neither 1 nor 3
   module _ (h : ℕ) (named : member h losses ≡ true) where

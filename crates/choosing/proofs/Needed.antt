@@ -27,7 +27,7 @@ unfolding serves layersBad
 serves-multiple m h = Bool·not-not (eqb (m % oddPart h (h + 1)) 0)
 
 -- 3² × 5 × 7 × 11 × 13, which serves every loss of fewer than 14 nodes: the number that is worked out divides it, and so is small
-abbrev pub servesAny : ℕ
+abbrev servesAny : ℕ
 servesAny = 45045
 
 served-any : all (serves servesAny) (range 0 mostNodes) ≡ true

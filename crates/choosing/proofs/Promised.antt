@@ -27,7 +27,7 @@ use Rattle.choosing.proofs.Needed.{serves-multiple}
 
 -- ---- the test and the words
 
-pub serves-says : (m h : ℕ) → serves m h ≡ true → Serves m h
+serves-says : (m h : ℕ) → serves m h ≡ true → Serves m h
 serves-says m h e =
     let o = batch-parted h in
     record {
@@ -45,11 +45,11 @@ says-serves m h w =
     serves-multiple m h ∙ eq-eqb _ 0 (ap (λ s. m % s) only ∙ ap (λ n. n % w .s) (w .multiple) ∙ mul-mod-left (w .batches) (w .s))
 
 module _ (losses : List ℕ) (m : ℕ) where
-  pub all-each : servesAll losses m ≡ true → ServesEach m losses
+  all-each : servesAll losses m ≡ true → ServesEach m losses
   unfolding servesAll
   all-each e h named = serves-says m h (all-member (serves m) losses e h named)
 
-  pub each-all : ServesEach m losses → servesAll losses m ≡ true
+  each-all : ServesEach m losses → servesAll losses m ≡ true
   unfolding servesAll
   each-all w = at-all (serves m) losses (λ j l. says-serves m (getD losses j 0) (w (getD losses j 0) (member-of losses j l)))
 
@@ -92,7 +92,7 @@ module _ (n k : ℕ) (losses : List ℕ) where
         head : {a b : ℕ} → _≡_ {A = List ℕ} (a ∷ []) (b ∷ []) → a ≡ b
         head p = ap (λ xs. getD xs 0 0) p
 
-    pub chooses : Chooses n k losses answer
+    chooses : Chooses n k losses answer
     chooses = record {
       number = number;
       returned = returned;

@@ -20,7 +20,7 @@ servesAll losses layers = all (serves layers) losses
 unfoldable pub leastLayers : List ℕ → ℕ
 leastLayers losses = firstFrom (servesAll losses) 1 mostLayers
 
--- 1: n or k outside its range: a shape with them is bad whatever its layers, and so with 1
+-- 1: n or k outside its range: the shape with them and one layer, which is in range, is bad
 unfoldable pub countsBad : ℕ → ℕ → Bool
 countsBad n k = shapeBad (record { n = n; k = k; layers = 1 })
 

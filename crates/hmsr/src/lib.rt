@@ -12,7 +12,6 @@ use returned::symbol_number;
 use returned::unpack_room;
 use shape::Shape;
 use shape::number_of;
-ghost use lib.ListN.{length};
 ghost use Rattle.shape.specs.Refusals.{answerNumber};
 ghost use Rattle.code.specs.Promises.{Writes, Restores, Opens};
 ghost use Rattle.checking.specs.Promises.{Checks};

@@ -25,7 +25,7 @@ pub fn choose(nodes: usize, data: usize, layers: Layers, length: usize) -> Resul
         Layers::Named(layers) => named(judged(nodes, data, layers)?, length),
         Layers::MultipleOf(layers) => {
             let fewest = judged(nodes, data, layers)?;
-            smallest_multiple(fewest, length).ok_or_else(|| too_long(fewest, length))
+            smallest_multiple(fewest, length).ok_or_else(|| too_long_for_losses(fewest, length))
         }
     }
 }
@@ -59,7 +59,7 @@ fn best(one_layer: Shape, length: usize) -> Result<Shape, Failure> {
     let every_loss: Vec<usize> = (1..nodes - data).collect();
     let fewest = Shape::for_losses(nodes, data, &every_loss).ok();
     let serving_all = fewest.and_then(|fewest| smallest_multiple(fewest, length));
-    serving_all.or_else(|| serving_most(one_layer, length)).ok_or_else(|| too_long(one_layer, length))
+    serving_all.or_else(|| serving_most(one_layer, length)).ok_or_else(|| too_long(one_layer))
 }
 
 /// The same, by trying every number of layers.
@@ -75,7 +75,7 @@ fn named(shape: Shape, length: usize) -> Result<Shape, Failure> {
     }
     let one_layer = Shape { layers: 1, ..shape };
     let Some(fewest) = smallest_multiple(one_layer, length) else {
-        return Err(too_long(one_layer, length));
+        return Err(too_long(one_layer));
     };
     let (layers, fewest) = (counted(shape.layers, "layer"), fewest.layers);
     Err(Failure::Usage(format!("{length} bytes do not fit into {layers}: use --layers {fewest} or more")))
@@ -111,20 +111,32 @@ pub fn no_shape(refusal: Refusal, advice: &str) -> Failure {
     Failure::refused(Failure::Usage, "no archive has this shape", refusal, advice)
 }
 
-/// No multiple of the shape's layers holds the transcript. More bytes would fit into other layers only where losses ask
-/// for these.
-fn too_long(shape: Shape, length: usize) -> Failure {
-    let Shape { nodes, data, .. } = shape;
+/// No number of layers holds the transcript.
+fn too_long(shape: Shape) -> Failure {
     let most_layers = Shape { layers: MOST_LAYERS, ..shape };
-    let largest = multiples(shape).last().unwrap_or(shape);
-    let (losses, serving, advice) = match (largest == most_layers, holds(most_layers, length)) {
-        (true, _) => ("", "", "split it, or use more data nodes"),
-        (false, false) => (" for these losses", " that serves them", "split it, or use more nodes"),
-        (false, true) => (" for these losses", " that serves them", "split it, use more nodes, or name fewer losses"),
-    };
+    holds_less(most_layers, "", "", "split it, or use more data nodes")
+}
+
+/// No number of layers that serves the losses holds it, and it is for them only where the most layers do not serve them.
+/// More data nodes may leave no repair of these losses, so they are not advised.
+fn too_long_for_losses(fewest: Shape, length: usize) -> Failure {
+    let most_layers = Shape { layers: MOST_LAYERS, ..fewest };
+    let largest = multiples(fewest).last().unwrap_or(fewest);
+    let others = "split it, or choose other --nodes and --data";
+    if largest == most_layers {
+        return holds_less(largest, "", "", others);
+    }
+    let fewer = "split it, choose other --nodes and --data, or name fewer losses";
+    let advice = if holds(most_layers, length) { fewer } else { others };
+    holds_less(largest, " for these losses", " that serves them", advice)
+}
+
+/// The transcript is longer than what the largest shape in question holds.
+fn holds_less(largest: Shape, cause: &str, which: &str, advice: &str) -> Failure {
+    let Shape { nodes, data, .. } = largest;
     Failure::Usage(format!(
-        "the transcript is too long{losses}: an archive with --nodes {nodes} --data {data}{serving} holds at most {} \
-         bytes; {advice}",
+        "the transcript is too long{cause}: an archive with --nodes {nodes} --data {data}{which} holds at most {} bytes; \
+         {advice}",
         capacity(largest)
     ))
 }

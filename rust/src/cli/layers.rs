@@ -65,8 +65,8 @@ fn not_repairable(nodes: usize, data: usize, losses: &[usize]) -> Failure {
 fn not_served(nodes: usize, data: usize, losses: &[usize]) -> Failure {
     let what = format!("{} cannot each be repaired in one go", losses_listed(losses));
     let advice = format!(
-        "they need {} layers together: name fewer sizes, a loss of a size that is left out is still repaired, in \
-         several goes",
+        "they need {} layers together: name fewer sizes, a loss of a size that is left out is still repaired, if need \
+         be in several goes",
         needed(nodes, data, losses)
     );
     Failure::refused(Failure::Usage, &what, Refusal::NoLayers, &advice)

@@ -7,9 +7,10 @@ const USAGES: [(&str, &str); 8] = [
         "\
 hmsr write FILE DIR --nodes N --data K [--layers L | --losses LIST] [--hearing NUMBER] [--quiet]
         write FILE into N cards, DIR/node-00.card and so on, any K of which give it back (N is 3 to 14, K is 1 to
-        N - 2), in L layers (1 to 15), or in the fewest with which a loss of each size in LIST is repaired in one go, or
-        else in the best number, with the hearing NUMBER on every card (1 to 999999; 0, as without --hearing, is none);
-        FILE - is standard input; a write that was killed is finished by the same write again
+        N - 2), in L layers (1 to 15), or in the fewest that hold FILE and with which a loss of each size in LIST is
+        repaired in one go (numbers of lost nodes, 1 to N - K - 1, with commas, as 2,4), or else in the best number,
+        with the hearing NUMBER on every card (1 to 999999; 0, as without --hearing, is none); FILE - is standard input;
+        a write that was killed is finished by the same write again
 ",
     ),
     (

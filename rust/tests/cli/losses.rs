@@ -115,7 +115,7 @@ fn layers_are_told_to_programs() {
 #[test]
 fn losses_that_no_layers_serve_are_refused_with_what_they_need() {
     let place = with_transcript("losses_unserved", 10);
-    let advice = "name fewer sizes, a loss of a size that is left out is still repaired, in several goes";
+    let advice = "name fewer sizes, a loss of a size that is left out is still repaired, if need be in several goes";
     for (shape, losses, named, needed) in [
         ("--nodes 12 --data 5", "2,6", "2 and 6", 21),
         ("--nodes 12 --data 5", "6,2,2", "2 and 6", 21),
@@ -300,16 +300,18 @@ fn a_transcript_that_is_too_long_for_the_losses_is_refused() {
     let for_losses = "hmsr: the transcript is too long for these losses: an archive with --nodes 10 --data 1 that \
                       serves them holds at most 9216 bytes; ";
     for count in [9 * 1024 + 1, 15 * 1024] {
-        let advice = "split it, use more nodes, or name fewer losses\n";
+        let advice = "split it, choose other --nodes and --data, or name fewer losses\n";
         assert_eq!(too_long(count, "8,2"), format!("{for_losses}{advice}"), "{count}");
     }
     // Fewer losses would not help.
     for count in [15 * 1024 + 1, 20 * 1024] {
-        assert_eq!(too_long(count, "2,8"), format!("{for_losses}split it, or use more nodes\n"), "{count}");
+        let advice = "split it, or choose other --nodes and --data\n";
+        assert_eq!(too_long(count, "2,8"), format!("{for_losses}{advice}"), "{count}");
     }
     // With losses that all 15 layers serve, as many bytes fit as without.
-    let any = "hmsr: the transcript is too long: an archive with --nodes 10 --data 1 holds at most 15360 bytes; split \
-               it, or use more data nodes\n";
-    assert_eq!(too_long(15 * 1024 + 1, "2,4"), any);
-    assert_eq!(place.refuses("write transcript new --nodes 10 --data 1", USAGE, &[]), any);
+    let any =
+        "hmsr: the transcript is too long: an archive with --nodes 10 --data 1 holds at most 15360 bytes; split it, ";
+    assert_eq!(too_long(15 * 1024 + 1, "2,4"), format!("{any}or choose other --nodes and --data\n"));
+    let without = place.refuses("write transcript new --nodes 10 --data 1", USAGE, &[]);
+    assert_eq!(without, format!("{any}or use more data nodes\n"));
 }
