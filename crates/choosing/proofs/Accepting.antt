@@ -33,7 +33,7 @@ use Rattle.choosing.specs.declared.Chosen.the-variants.{Layers}
 use Rattle.choosing.specs.Layers.{serves, countsBad, lossesBad, layersRefusal}
 use Rattle.choosing.specs.Promises.{LayersAccepted, Chooses}
 use Rattle.choosing.proofs.Promised.{says-serves}
-use Rattle.choosing.proofs.Texts.{Unlike, unlike-six, unlike-lists}
+use Rattle.choosing.proofs.Texts.{Unlike, unlike-line, unlike-lists}
 
 -- causes other than 1 and 3 leave layers accepted
 apart : (two four five : Bool) → LayersAccepted (refuse two 2 (refuse four 4 (refuse five 5 0)))
@@ -171,7 +171,7 @@ module _ (n k : ℕ) (losses : List ℕ) (layers : ℕ) (chosen : Chooses n k lo
 
     lists-unlike : (read : Numbers) → ((vs rest : List ℕ) → read ≡ values vs rest → h ≤ length vs) → Unlike (withLists shape h read)
     unfolding withLists
-    lists-unlike broken long = unlike-six
+    lists-unlike broken long = unlike-line 6 (omega arith) (λ e. omega arith) (λ e. omega arith)
     lists-unlike (values nodes rest) long = nodes-unlike nodes (leftOver rest) (long nodes rest refl)
 
     pub plan-accepts : (input rest : List ℕ) → readNumbers frontCount input ≡ values (n ∷ k ∷ layers ∷ h ∷ []) rest
