@@ -19,7 +19,7 @@ use Rattle.shape.specs.declared.Answer.the-variants.{Done}
 use Rattle.shape.specs.Shape.{mostNodes, mostLayers, size, within, shapeGood}
 use Rattle.shape.specs.Refusals.{answerNumber, refuse, shapeBad, repairBad, layersBad, wrongLength, symbolBad}
 use Rattle.shape.proofs.Accepted.{passed, repair-accepted}
-use Rattle.shape.proofs.Answers.{number-done}
+use Rattle.shape.proofs.Answers.{number-only}
 use Rattle.numbers.specs.Numbers.{Numbers, values, broken, readNumbers, mostGroups}
 use Rattle.numbers.proofs.Numbers.{numbers-count}
 use Rattle.code.specs.Code.{narrow}
@@ -140,7 +140,7 @@ module _ (n k : ℕ) (losses : List ℕ) (layers : ℕ) (chosen : Chooses n k lo
         → (answer ≡ Done) × ((u : ℕ) → u < length dead → piece (size shape) (node dead u) nodes-after ≡ piece (size shape) (node dead u) written)
     unfolding wholeRefusal wrongLength
     written-repaired bytes before written nodes nodes-after wire wire-after answer w full held lists long p =
-        (number-done answer (p .number ∙ none), p .whole none .exact written word held)
+        (number-only answer Done (p .number ∙ none), p .whole none .exact written word held)
       where
         word : Codeword narrow shape written
         word = w .codeword refl

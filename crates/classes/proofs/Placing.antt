@@ -25,3 +25,12 @@ module _ (h u v : ℕ) (l : u < h) (m : v < h) (d : v ≢ u) where
       go : (v < u) ⊎ (u ≤ v) → cond (ltb (cond (ltb v u) v (v - 1)) u) (cond (ltb v u) v (v - 1)) (cond (ltb v u) v (v - 1) + 1) ≡ v
       go (inl b) = rw (cond-below v (v - 1) v u b) (cond-below v (v + 1) v u b)
       go (inr b) = rw (cond-beyond v (v - 1) v u b) (cond-beyond (v - 1) (v - 1 + 1) (v - 1) u (omega arith) ∙ omega arith)
+
+-- the j-th of the ranks but u
+pub other-is : (h u j : ℕ) → u < h → j < h - 1 → (otherRank u j < h) × (otherRank u j ≢ u) × (place u (otherRank u j) ≡ j)
+unfolding otherRank place
+other-is h u j l k = go (below-or-not j u)
+  where
+    go : (j < u) ⊎ (u ≤ j) → (otherRank u j < h) × (otherRank u j ≢ u) × (place u (otherRank u j) ≡ j)
+    go (inl b) = let e = cond-below j (j + 1) j u b in rw e (omega arith, λ z. omega arith, cond-below j (j - 1) j u b)
+    go (inr b) = let e = cond-beyond j (j + 1) j u b in rw e (omega arith, λ z. omega arith, cond-beyond (j + 1) (j + 1 - 1) (j + 1) u (omega arith) ∙ omega arith)

@@ -19,6 +19,7 @@ ghost use Rattle.repair.specs.Promises.{HelperMessage, FirstStep, SecondStep, R
 ghost use Rattle.card.specs.Promises.{Packs};
 ghost use Rattle.plan.specs.Promises.{Plans};
 ghost use Rattle.choosing.specs.Promises.{Chooses};
+ghost use Rattle.ordering.specs.Promises.{Orders};
 ghost use Rattle.returned.specs.Promises.{Returned, shapeOf, headerFrom, checkReturned, packReturned, planReturned, layersReturned, UnpackReturned};
 
 // What check, pack, plan and layers find is returned behind the numbers below this one, which are refusals'.
@@ -223,4 +224,20 @@ pub extern "C" fn hmsr_layers(n: usize, k: usize, losses: &[usize]) -> usize
         Chosen::Refused(cause) => number_of(cause),
         Chosen::Layers(least) => FIRST_FOUND + least,
     }
+}
+
+// Whether the transfers of a repair may run in the order of a list of numbers, sender then receiver (document 02 §12): 0 where they may.
+#[no_mangle]
+pub extern "C" fn hmsr_may_run(
+    n: usize,
+    k: usize,
+    layers: usize,
+    dead: &[usize],
+    helpers: &[usize],
+    pairs: &[usize],
+) -> usize
+    ensures { λ r. ⌜ Returned answerNumber (Orders (shapeOf n k layers) (now (dead .entry)) (now (helpers .entry)) (now (pairs .entry))) r ⌝ }
+{
+    let s = Shape { n, k, layers };
+    answer_number(ordering::may_run(s, dead, helpers, pairs))
 }

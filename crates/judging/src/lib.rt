@@ -20,8 +20,8 @@ ghost use Rattle.judging.specs.Refusals.{listsRefusal, messageRefusal, f
 ghost use Rattle.code.specs.Code.{narrow};
 ghost use Rattle.lists.specs.Lists.{all, rising};
 
-// Causes 1 to 3, which all four calls share. Nothing is worked out from the shape before it is judged.
-fn judge_lists(s: Shape, dead: &[usize], helpers: &[usize], unnamed: bool) -> Answer
+// Causes 1 to 3, which all calls of a repair share. Nothing is worked out from the shape before it is judged.
+pub fn judge_lists(s: Shape, dead: &[usize], helpers: &[usize], unnamed: bool) -> Answer
     ensures { λ r. ⌜ answerNumber r ≡ listsRefusal s (now (dead .entry)) (now (helpers .entry)) unnamed 0 ⌝ }
 {
     if shape_bad(s) {

@@ -25,10 +25,10 @@ use Rattle.classes.specs.Whole.{fromHelpers, fromSender, fromDead, wire, renewe
 use Rattle.solving.specs.Solving.{slotOf}
 use Rattle.wiring.specs.Wires.{inward, inwards, toRank, Messaged, Wired, Exchanged, fromOthers, Renewable, Renewed}
 use Rattle.classes.proofs.Dead.{Dead, Accepted, dead-of}
+use Rattle.classes.proofs.Placing.{other-is}
 use Rattle.classes.proofs.FirstStep.{exchange-length}
 use Rattle.classes.proofs.Wire.{helpers-at}
 use Rattle.classes.proofs.Messages.{messageAt, message-table}
-use Rattle.solving.proofs.Sending.{other-is}
 use Rattle.wiring.proofs.OnWire.{helpers-length}
 use Rattle.repair.proofs.Below.{pairs-low, exchange-low}
 
@@ -136,7 +136,7 @@ module _ (s : Shape) (dead helpers nodes wire₀ W₁ : List ℕ) (A : Accepted 
     unfolding back fromSender exchange exchangeAt slotOf
     exchanged v j y l k m =
         let u = otherRank v j in
-        let o = other-is s dead helpers v nodes h j l k in
+        let o = other-is h v j l k in
         let d : v ≢ u = λ z. o .1 (sym z) in
         getD-drop (inwards s dead) W₂ (v * ((h - 1) * M) + (j * M + y)) 0
         ∙ ap (λ z. getD W₂ (inwards s dead + z) 0) (let e : v * ((h - 1) * M) + (j * M + y) ≡ (v * (h - 1) + j) * M + y = omega arith in e)
@@ -174,7 +174,7 @@ module _ (s : Shape) (dead helpers nodes wire₀ W₁ : List ℕ) (A : Accepted 
         low-flat (narrow .modulus) M (h - 1) (fromSender narrow s dead helpers nodes u) (omega arith) (sender-length u)
         (λ j k.
         let v = otherRank u j in
-        let m : v < h = other-is s dead helpers u nodes h j l k .0 in
+        let m : v < h = other-is h u j l k .0 in
         exchange-low s dead helpers A v (told v) (rw (to-rank v m) at (wired .helped v m)) (node dead u))
 
     pub renewable : Renewable s dead N₁ W₂

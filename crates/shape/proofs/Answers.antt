@@ -1,10 +1,12 @@
--- What an answer tells: the number is 0 where the call did its work, and there alone; what a lent buffer then holds.
-use mathlib.Core.Path.{_≡_, refl}
+-- What an answer tells: its number is no other's, and 0 where the call did its work; what a lent buffer then holds.
+use mathlib.Core.Path.{_≡_, refl, sym, ap, _∙_}
+use mathlib.Core.Bool.{cond}
 use mathlib.Core.List.{List}
 use Prim.Native.Nat.{ℕ, zero, suc, _<_}
 use native.Mathlib.Omega.{arith}
+use lib.Dec.{eqb}
 use Rattle.shape.specs.declared.Refusal.{Refusal}
-use Rattle.shape.specs.declared.Refusal.the-variants.{BadShape, BadNodes, PartBatch, WrongLength, BadSymbol, Malformed, NoTranscript, NoLayers}
+use Rattle.shape.specs.declared.Refusal.the-variants.{BadShape, BadNodes, PartBatch, WrongLength, BadSymbol, Malformed, NoTranscript, NoLayers, BadOrder}
 use Rattle.shape.specs.declared.Answer.{Answer}
 use Rattle.shape.specs.declared.Answer.the-variants.{Done, Refused}
 use Rattle.shape.specs.Refusals.{numberOf, answerNumber, afterwards}
@@ -18,11 +20,37 @@ number-positive BadSymbol = omega arith
 number-positive Malformed = omega arith
 number-positive NoTranscript = omega arith
 number-positive NoLayers = omega arith
+number-positive BadOrder = omega arith
 
--- an answer whose number is 0 is that the work is done
-pub number-done : (answer : Answer) → answerNumber answer ≡ 0 → answer ≡ Done
-number-done Done e = refl
-number-done (Refused cause) e = absurd (omega (arith, number-positive cause))
+-- the answer that a number is of
+answerOf : ℕ → Answer
+answerOf n =
+    cond (eqb n 1) (Refused BadShape)
+    (cond (eqb n 2) (Refused BadNodes)
+    (cond (eqb n 3) (Refused PartBatch)
+    (cond (eqb n 4) (Refused WrongLength)
+    (cond (eqb n 5) (Refused BadSymbol)
+    (cond (eqb n 6) (Refused Malformed)
+    (cond (eqb n 7) (Refused NoTranscript)
+    (cond (eqb n 11) (Refused NoLayers)
+    (cond (eqb n 13) (Refused BadOrder) Done))))))))
+
+answer-of : (answer : Answer) → answerOf (answerNumber answer) ≡ answer
+unfolding answerOf
+answer-of Done = refl
+answer-of (Refused BadShape) = refl
+answer-of (Refused BadNodes) = refl
+answer-of (Refused PartBatch) = refl
+answer-of (Refused WrongLength) = refl
+answer-of (Refused BadSymbol) = refl
+answer-of (Refused Malformed) = refl
+answer-of (Refused NoTranscript) = refl
+answer-of (Refused NoLayers) = refl
+answer-of (Refused BadOrder) = refl
+
+-- no two answers have one number
+pub number-only : (answer other : Answer) → answerNumber answer ≡ answerNumber other → answer ≡ other
+number-only answer other e = sym (answer-of answer) ∙ ap answerOf e ∙ answer-of other
 
 -- a buffer when the call did its work, and when it turned back with a cause
 module _ (before made : List ℕ) where

@@ -9,7 +9,6 @@ use native.Mathlib.Omega.{arith}
 use lib.ListN.{length, getD}
 use lib.Seq.{ext-getD}
 use Rattle.lists.specs.Sums.{sum}
-use Rattle.lists.proofs.Tests.{cond-below, cond-beyond, below-or-not}
 use Rattle.lists.proofs.Flats.{flat-length, flat-at}
 use Rattle.lists.proofs.Places.{place-of}
 use Rattle.lists.proofs.Tables.{tabulate-at}
@@ -21,6 +20,7 @@ use Rattle.classes.specs.Classes.{node, messageSize}
 use Rattle.classes.specs.Steps.{place, otherRank, ownPair, ownPairs, exchangeAt, exchange, exchangeTo, exchanges}
 use Rattle.solving.specs.Solving.{slotOf, rowSum, Put, Other, slotPlace, handedSum, handed, HandedOut, ownEntry, own, Owned, pairPlace}
 use Rattle.classes.proofs.FirstStep.{exchange-length, pairs-at}
+use Rattle.classes.proofs.Placing.{other-is}
 use Rattle.solving.proofs.Slots.{slot-symbol-own}
 use Rattle.solving.proofs.Puts.{put-more, put-stored}
 
@@ -77,15 +77,6 @@ module _ (s : Shape) (dead helpers : List ℕ) (u : ℕ) (messages : List ℕ) w
           ap (λ z. getD now z 0) (sym (p .whole)) ∙ w .each (i % 2) (i / 2) (p .place) (p .row) (all (i / 2) (p .row)) ∙ sym (own-pair (i % 2) (i / 2) (p .place))
           ∙ sym (pairs-at narrow s dead helpers u messages (i / 2) (i % 2) (p .row) (p .place)) ∙ ap (λ z. getD (ownPairs narrow s dead helpers u messages) z 0) (p .whole)
 
-  -- the j-th of the other ranks
-  pub other-is : (h j : ℕ) → u < h → j < h - 1 → (otherRank u j < h) × (otherRank u j ≢ u) × (place u (otherRank u j) ≡ j)
-  unfolding otherRank place
-  other-is h j l k = go (below-or-not j u)
-    where
-      go : (j < u) ⊎ (u ≤ j) → (otherRank u j < h) × (otherRank u j ≢ u) × (place u (otherRank u j) ≡ j)
-      go (inl b) = let e = cond-below j (j + 1) j u b in rw e (omega arith, λ z. omega arith, cond-below j (j - 1) j u b)
-      go (inr b) = let e = cond-beyond j (j + 1) j u b in rw e (omega arith, λ z. omega arith, cond-beyond (j + 1) (j + 1 - 1) (j + 1) u (omega arith) ∙ omega arith)
-
   pub sent-end : u < length dead → (Done : ℕ → Type 0) (old now : List ℕ) → ((x : ℕ) → x < messageSize s dead → Done x) → HandedOut s dead helpers u messages false Done old now
       → length old ≡ (length dead - 1) * messageSize s dead → now ≡ exchanges narrow s dead helpers u messages
   unfolding exchanges exchangeTo exchange exchangeAt slotOf slotPlace handed
@@ -107,7 +98,7 @@ module _ (s : Shape) (dead helpers : List ℕ) (u : ℕ) (messages : List ℕ) w
       each : (i : ℕ) → i < length now → getD now i 0 ≡ getD (exchanges narrow s dead helpers u messages) i 0
       each i h =
           let w = place-of (length dead - 1) M i (omega (arith, S .long)) in
-          let o = other-is (length dead) (i / M) l (w .row) in
+          let o = other-is (length dead) u (i / M) l (w .row) in
           ap (λ z. getD now z 0) (sym (w .whole))
           ∙ ap (λ z. getD now (z * M + (i % M)) 0) (sym (o .2))
           ∙ S .each (otherRank u (i / M)) (i % M) (o .0, o .1) (w .place) (all (i % M) (w .place))
