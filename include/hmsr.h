@@ -11,7 +11,7 @@
  * other calls less than 16 KB, whatever N and the lengths of lists are.
  *
  * A call returns 0 where it did its work, and otherwise the number of the first cause for which it turned back, except where its
- * comment says so. The causes are judged in the order 1, 2, 11, 3, 4, 5, 7; cards and the plan have orders of their own. Where a
+ * comment says so. The causes are judged in the order 1, 2, 11, 3, 4, 13, 5, 7; cards and the plan have orders of their own. Where a
  * call turned back, every buffer is as it was.
  *
  * From top to bottom: the version, the refusals and their texts, the sizes of buffers, and the calls. The calls are the library's; the
@@ -33,7 +33,7 @@ extern "C" {
 #define HMSR_VERSION_PATCH 0
 
 /* The refusals, that is, the causes for which calls turn back. The comments of the calls name them by their numbers. There is
- * no 8, 9 or 10. */
+ * no 8, 9, 10 or 12. */
 
 /* n outside 3 to 14, k outside 1 to n-2, or layers outside 1 to 15. */
 #define HMSR_BAD_SHAPE 1
@@ -45,7 +45,7 @@ extern "C" {
 /* layers not a multiple of s, where h dead nodes make h+1 = s * 2^m with s odd. */
 #define HMSR_PART_BATCH 3
 
-/* A buffer not of the exact length, or, outside cards, a transcript length above k * N. */
+/* A buffer not of the exact length, an odd count of numbers in a list of pairs, or, outside cards, a transcript length above k * N. */
 #define HMSR_WRONG_LENGTH 4
 
 /* A symbol handed in is above 256 (hmsr_repair looks at the helpers' symbols only). */
@@ -60,6 +60,10 @@ extern "C" {
 /* Choosing layers: no number of layers up to 15 serves every loss in the list. */
 #define HMSR_NO_LAYERS 11
 
+/* Transfers that may not run in the order of their list: they are not those of the plan, each once, or an exchange comes before a message
+ * to its sender. */
+#define HMSR_BAD_ORDER 13
+
 /* A refusal's cause in words, on one line without a line end. 0 and numbers that are no refusal's have a fixed text of their own. */
 static inline const char *hmsr_refusal_text(size_t number) {
     switch (number) {
@@ -67,11 +71,12 @@ static inline const char *hmsr_refusal_text(size_t number) {
     case HMSR_BAD_SHAPE: return "there must be 3 to 14 nodes, 1 to nodes - 2 data nodes and 1 to 15 layers";
     case HMSR_BAD_NODES: return "the node lists, or the losses, are not as they should be";
     case HMSR_PART_BATCH: return "the number of layers is not a multiple of the layers of a batch";
-    case HMSR_WRONG_LENGTH: return "a buffer is not of the exact length, or the transcript is too long";
+    case HMSR_WRONG_LENGTH: return "a buffer is not of the exact length, a list of pairs is odd, or the transcript is too long";
     case HMSR_BAD_SYMBOL: return "a symbol is above 256";
     case HMSR_MALFORMED: return "the card or the input is malformed";
     case HMSR_NO_TRANSCRIPT: return "the symbols are not those of a transcript of that length";
     case HMSR_NO_LAYERS: return "no number of layers from 1 to 15 serves every loss in the list";
+    case HMSR_BAD_ORDER: return "the transfers are not those of the plan, each once, or one comes before what it waits for";
     default: return "not the number of a refusal";
     }
 }
@@ -185,6 +190,17 @@ size_t hmsr_repair(size_t n, size_t k, size_t layers,
                    const size_t *helpers, size_t helpers_length,
                    uint16_t *nodes, size_t nodes_length,
                    uint16_t *wire, size_t wire_length);
+
+/* Whether the transfers of this repair may run one by one in the order of a list of numbers, sender then receiver. They may exactly if every
+ * transfer of the plan (see hmsr_plan) stands in the list once, nothing else does, and each exchange, that is, each transfer between dead
+ * nodes, comes after all k+1 helpers' messages to its sender. Then running the list, each message made by hmsr_helper_message or
+ * hmsr_first_step from what its sender holds by then, and each dead node finishing with hmsr_second_step, leaves every dead node as
+ * hmsr_repair does. The list may have any length and any numbers. Returns 0 where they may run, 13 where they may not; turns back with
+ * 1, 2, 3, 4 for an odd count of numbers. */
+size_t hmsr_may_run(size_t n, size_t k, size_t layers,
+                    const size_t *dead, size_t dead_length,
+                    const size_t *helpers, size_t helpers_length,
+                    const size_t *pairs, size_t pairs_length);
 
 /* Packs the N symbols of a node into a card, in the front of a buffer of 15 + 2 * N bytes; `length` is the transcript's, `hearing` the
  * hearing number, 1 to 999999, or 0 for none. A card with a hearing number starts with the number 1, which is no n. Returns a refusal

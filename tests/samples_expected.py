@@ -1,7 +1,7 @@
 #!/usr/bin/env python3
 """What rust/tests/stored.rs must make of the samples of document 01 ("Samples on both edges"), its numbers written down,
-of a card with a hearing number (document 02 §9), worked out by hand, and of lists of losses (document 02 §6), by its
-sentences and by hand.
+of a card with a hearing number (document 02 §9), worked out by hand, of lists of losses (document 02 §6), by its
+sentences and by hand, and of orders of document 01's plan (document 02 §12), by hand.
 
     python3 tests/samples_expected.py > tests/stored/samples.txt
 
@@ -52,3 +52,8 @@ show(271, 271, 257, 11)
 show(2, 2, 1)
 # n=12, k=1: for 10 dead nodes h+1 is 11, and L too; 2 asks for a multiple of 3 besides, 33 at least: 11
 show(267, 11)
+# n=4, k=1, L=3, dead 0 1, helpers 2 3 (document 02 §12): the plan's order may run, and so may 3 1, 2 1, 1 0, 2 0, 3 0, 0 1, for an
+# exchange waits for its sender alone; 2 1, 1 0, 3 1, 2 0, 3 0, 0 1 may not: node 1 sends before 3 1
+show(0, 0, 13)
+# the plan without its last pair, with 2 0 once more behind it, with 9 0 behind it, with one number behind it; the empty list
+show(13, 13, 13, 4, 13)

@@ -9,8 +9,9 @@
 #[path = "../tests/naive/mod.rs"]
 mod naive;
 
-use hmsr::{Repair, Shape};
+use hmsr::{Refusal, Repair, Shape};
 use naive::random::Random;
+use naive::Lists;
 use std::hint::black_box;
 use std::time::{Duration, Instant};
 
@@ -21,6 +22,10 @@ const LARGEST: (usize, usize, usize) = (14, 8, 15);
 const LARGEST_DEAD_COUNTS: [usize; 1] = [3];
 /// The lengths of the lists that layers are chosen for, at n = 14 and k = 1.
 const LOSS_COUNTS: [usize; 2] = [12, 1_000_000];
+/// n, k, L and h of the plans whose transfers are put in order: the longest, of 156 transfers, and a common one, of 27.
+const ORDERED: [(usize, usize, usize, usize); 2] = [(14, 1, 13, 12), (12, 6, 15, 3)];
+/// The numbers of a list that is no plan's.
+const LONG_LIST: usize = 1_000_000;
 const ROUNDS: usize = 5;
 
 /// A line of a round goes on until it has so many runs of each side, or else the least number and this time.
@@ -339,6 +344,41 @@ fn bench_layers(table: &mut Table, count: usize) {
     assert_eq!(Shape::for_losses(14, 1, &losses).map(|shape| shape.layers).ok(), naive::layers(14, 1, &losses).ok());
 }
 
+/// A repair, and its plan's transfers in a random order that may run.
+fn ordered((n, k, layers, h): (usize, usize, usize, usize)) -> (Lists, Vec<usize>) {
+    let mut random = Random::new(1);
+    let shape = naive::Shape { n, k, layers };
+    let (dead, helpers) = random.sets(shape, h);
+    let lists = Lists { shape, dead, helpers };
+    let list = naive::order::numbers(&random.order(&lists));
+    (lists, list)
+}
+
+/// A "symbol" of a list is a transfer in it; no transcript is behind it.
+fn bench_may_run(table: &mut Table, call: &str, lists: &Lists, list: &[usize]) {
+    let Lists { shape: naive::Shape { n, k, layers }, dead, helpers } = lists;
+    let repair = Repair { shape: Shape { nodes: *n, data: *k, layers: *layers }, dead, helpers };
+    table.line(
+        format!("({n}, {k}, {layers}) {call}"),
+        list.len() / 2,
+        0,
+        || repair.may_run(black_box(list)),
+        || naive::may_run(lists, black_box(list)),
+    );
+    assert_eq!(repair.may_run(list).map_err(Refusal::number), naive::may_run(lists, list));
+}
+
+/// The plans in orders that may run, and the longest one's over and over, which may not.
+fn bench_orders(table: &mut Table) {
+    for size in ORDERED {
+        let (lists, list) = ordered(size);
+        bench_may_run(table, &format!("may_run h={}", size.3), &lists, &list);
+    }
+    let (lists, list) = ordered(ORDERED[0]);
+    let long: Vec<usize> = list.into_iter().cycle().take(LONG_LIST).collect();
+    bench_may_run(table, &format!("may_run, {LONG_LIST} numbers"), &lists, &long);
+}
+
 fn bench_shape(table: &mut Table, shape: (usize, usize, usize), dead_counts: &[usize]) {
     let written = Written::new(shape);
     bench_code(table, &written);
@@ -357,6 +397,7 @@ fn main() {
         }
         bench_shape(&mut table, LARGEST, &LARGEST_DEAD_COUNTS);
         LOSS_COUNTS.iter().for_each(|&count| bench_layers(&mut table, count));
+        bench_orders(&mut table);
     }
     table.print();
 }

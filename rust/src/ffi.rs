@@ -38,6 +38,10 @@ extern "C" {
         n: usize, k: usize, layers: usize, dead: *const usize, dead_len: usize, helpers: *const usize,
         helpers_len: usize, nodes: *mut u16, nodes_len: usize, wire: *mut u16, wire_len: usize,
     ) -> usize;
+    fn hmsr_may_run(
+        n: usize, k: usize, layers: usize, dead: *const usize, dead_len: usize, helpers: *const usize,
+        helpers_len: usize, pairs: *const usize, pairs_len: usize,
+    ) -> usize;
     fn hmsr_pack(
         n: usize, k: usize, layers: usize, node: usize, length: usize, hearing: usize, symbols: *const u16,
         symbols_len: usize, card: *mut u8, card_len: usize,
@@ -176,6 +180,23 @@ pub(crate) fn repair(r: Repair, nodes: &mut [u16], wire: &mut [u16]) -> usize {
             nodes.len(),
             wire.as_mut_ptr(),
             wire.len(),
+        )
+    }
+}
+
+pub(crate) fn may_run(r: Repair, pairs: &[usize]) -> usize {
+    // SAFETY: see the top of this file.
+    unsafe {
+        hmsr_may_run(
+            r.shape.nodes,
+            r.shape.data,
+            r.shape.layers,
+            r.dead.as_ptr(),
+            r.dead.len(),
+            r.helpers.as_ptr(),
+            r.helpers.len(),
+            pairs.as_ptr(),
+            pairs.len(),
         )
     }
 }

@@ -12,7 +12,7 @@ pub enum Refusal {
     BadNodes = 2,
     /// The number of layers is not a multiple of the layers of a batch.
     PartBatch = 3,
-    /// A buffer not of the exact length, or a transcript too long.
+    /// A buffer not of the exact length, an odd count of numbers in a list of pairs, or a transcript too long.
     WrongLength = 4,
     /// A symbol handed in is above 256.
     BadSymbol = 5,
@@ -22,11 +22,14 @@ pub enum Refusal {
     NoTranscript = 7,
     /// No number of layers up to 15 serves every loss in the list.
     NoLayers = 11,
+    /// The transfers may not run in the order of their list: they are not those of the plan, each once, or an exchange
+    /// comes before a message to its sender.
+    BadOrder = 13,
 }
 
 impl Refusal {
     /// All causes, by their numbers.
-    pub const ALL: [Refusal; 8] = [
+    pub const ALL: [Refusal; 9] = [
         Refusal::BadShape,
         Refusal::BadNodes,
         Refusal::PartBatch,
@@ -35,9 +38,10 @@ impl Refusal {
         Refusal::Malformed,
         Refusal::NoTranscript,
         Refusal::NoLayers,
+        Refusal::BadOrder,
     ];
 
-    /// The cause's number: 1 to 7, or 11.
+    /// The cause's number: 1 to 7, 11 or 13.
     ///
     /// ```
     /// assert_eq!(hmsr::Refusal::PartBatch.number(), 3);
@@ -67,11 +71,16 @@ impl fmt::Display for Refusal {
             Refusal::BadShape => "there must be 3 to 14 nodes, 1 to nodes - 2 data nodes and 1 to 15 layers",
             Refusal::BadNodes => "the node lists, or the losses, are not as they should be",
             Refusal::PartBatch => "the number of layers is not a multiple of the layers of a batch",
-            Refusal::WrongLength => "a buffer is not of the exact length, or the transcript is too long",
+            Refusal::WrongLength => {
+                "a buffer is not of the exact length, a list of pairs is odd, or the transcript is too long"
+            }
             Refusal::BadSymbol => "a symbol is above 256",
             Refusal::Malformed => "the card or the input is malformed",
             Refusal::NoTranscript => "the symbols are not those of a transcript of that length",
             Refusal::NoLayers => "no number of layers from 1 to 15 serves every loss in the list",
+            Refusal::BadOrder => {
+                "the transfers are not those of the plan, each once, or one comes before what it waits for"
+            }
         })
     }
 }

@@ -153,6 +153,50 @@ impl Repair<'_> {
         Ok(wire)
     }
 
+    /// Whether the transfers of this repair may run one by one in the order of a list of numbers, sender then receiver:
+    /// `Ok` exactly if every transfer of the plan stands there once, nothing else does, and each exchange (a transfer
+    /// between dead nodes) comes after all data + 1 helpers' messages to its sender.
+    ///
+    /// Running such a list, each message made by [`Repair::helper_message`] or [`Repair::first_step`] from what its
+    /// sender holds by then, and each new node finishing with [`Repair::second_step`], leaves every dead node as
+    /// [`Repair::repair`] does. The list may have any length and any numbers.
+    ///
+    /// ```
+    /// use hmsr::{Refusal, Repair, Shape};
+    /// let repair = Repair { shape: Shape::new(4, 1, 3)?, dead: &[0, 1], helpers: &[2, 3] };
+    /// // node 1 sends to node 0 as soon as both helpers have sent to it
+    /// repair.may_run(&[3, 1, 2, 1, 1, 0, 2, 0, 3, 0, 0, 1])?;
+    /// // it sends before helper 2 has
+    /// assert_eq!(repair.may_run(&[3, 1, 1, 0, 2, 1, 2, 0, 3, 0, 0, 1]), Err(Refusal::BadOrder));
+    /// # Ok::<(), hmsr::Refusal>(())
+    /// ```
+    ///
+    /// # Errors
+    ///
+    /// [`Refusal::BadShape`], [`Refusal::BadNodes`], [`Refusal::PartBatch`]; [`Refusal::WrongLength`] where the count of
+    /// numbers is odd; [`Refusal::BadOrder`] where they may not run in this order. Judged in this order.
+    pub fn may_run(&self, numbers: &[usize]) -> Result<(), Refusal> {
+        answer(ffi::may_run(*self, numbers))
+    }
+
+    /// Whether the transfers of this repair may run in the order of a list of sender and receiver pairs, which is
+    /// copied into numbers for [`Repair::may_run`].
+    ///
+    /// ```
+    /// use hmsr::{Repair, Shape};
+    /// let repair = Repair { shape: Shape::new(3, 1, 1)?, dead: &[0], helpers: &[1, 2] };
+    /// repair.may_run_pairs(&[(2, 0), (1, 0)])?;
+    /// # Ok::<(), hmsr::Refusal>(())
+    /// ```
+    ///
+    /// # Errors
+    ///
+    /// As [`Repair::may_run`], but for [`Refusal::WrongLength`]: pairs are never odd.
+    pub fn may_run_pairs(&self, pairs: &[(usize, usize)]) -> Result<(), Refusal> {
+        let numbers: Vec<usize> = pairs.iter().flat_map(|&(sender, receiver)| [sender, receiver]).collect();
+        self.may_run(&numbers)
+    }
+
     /// N/(h+1), and 0 where there is no such size: the library then turns back for the shape, the lists or the layers,
     /// which it judges before any buffer's length.
     fn message_symbols(&self) -> usize {

@@ -23,10 +23,14 @@ mod losses;
 mod names;
 #[path = "cli/options.rs"]
 mod options;
+#[path = "cli/order.rs"]
+mod order;
 #[path = "cli/place.rs"]
 mod place;
 #[path = "cli/reading.rs"]
 mod reading;
+#[path = "cli/rules.rs"]
+mod rules;
 #[path = "cli/traffic.rs"]
 mod traffic;
 #[path = "cli/wrong.rs"]

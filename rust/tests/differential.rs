@@ -7,10 +7,9 @@ mod alone;
 mod compare;
 mod naive;
 
-use compare::Lists;
 use naive::judge::batch_layers;
 use naive::random::{codeword_of, Random};
-use naive::{Header, Number, Shape};
+use naive::{Header, Lists, Number, Shape};
 
 /// n × N of most inputs, but one layer is always allowed.
 const MOST_SYMBOLS: usize = 3000;
@@ -30,12 +29,12 @@ impl Drop for Seed {
 /// hundred cases at least.
 fn try_cases(count: usize, numbers: &[Number], mut case: impl FnMut(&mut Random) -> Number) {
     let first = std::env::var("HMSR_SEED").map_or(1, |seed| seed.parse().expect("a number"));
-    let mut tally = [0; 12];
+    let mut tally = [0; 14];
     for seed in first..first + count as u64 {
         let seed = Seed(seed);
         tally[case(&mut Random::new(seed.0))] += 1;
     }
-    println!("numbers 0 to 11 came up {tally:?}");
+    println!("numbers 0 to 13 came up {tally:?}");
     for (number, &times) in tally.iter().enumerate() {
         assert_eq!(numbers.contains(&number), times > count / 200, "number {number} came up {times} times");
     }
@@ -293,11 +292,6 @@ fn random_lists(random: &mut Random) -> Lists {
     Lists { shape, dead, helpers }
 }
 
-/// N/(h+1), rounded down where N is not a multiple.
-fn message_length(lists: &Lists) -> usize {
-    lists.shape.symbols() / (lists.dead.len() + 1)
-}
-
 /// Spoils shape or lists.
 fn spoil_lists(random: &mut Random, lists: &mut Lists) {
     let n = lists.shape.n;
@@ -328,7 +322,7 @@ fn helper_message() {
         let mut helper = random.choose(&lists.helpers);
         let mut new = random.choose(&lists.dead);
         let mut symbols = random.symbols(lists.shape.symbols());
-        let mut length = message_length(&lists);
+        let mut length = lists.message_length();
         match random.below(10) {
             0 => spoil_name(random, &lists.clone(), &mut helper),
             1 => spoil_name(random, &lists.clone(), &mut new),
@@ -347,7 +341,7 @@ fn first_step() {
     try_cases(2000, &[0, 1, 2, 3, 4, 5], |random| {
         let mut lists = random_lists(random);
         let mut new = random.choose(&lists.dead);
-        let length = message_length(&lists);
+        let length = lists.message_length();
         let mut messages = random.symbols(lists.helpers.len() * length);
         let mut pairs_length = 2 * length;
         let mut sums_length = (lists.dead.len() - 1) * length;
@@ -369,7 +363,7 @@ fn second_step() {
     try_cases(3000, &[0, 1, 2, 3, 4, 5], |random| {
         let mut lists = random_lists(random);
         let mut new = random.choose(&lists.dead);
-        let length = message_length(&lists);
+        let length = lists.message_length();
         let mut pairs = random.symbols(2 * length);
         let mut received = random.symbols((lists.dead.len() - 1) * length);
         let mut symbols_length = lists.shape.symbols();
@@ -397,7 +391,7 @@ fn repair() {
         for node in (0..shape.n).filter(|node| !lists.helpers.contains(node)) {
             nodes[node * size..(node + 1) * size].copy_from_slice(&random.garbage(size));
         }
-        let mut wire_length = h * (shape.k + h) * message_length(&lists);
+        let mut wire_length = h * (shape.k + h) * lists.message_length();
         match random.below(10) {
             0 | 1 => spoil_lists(random, &mut lists),
             2 => random.spoil_symbols(&mut nodes[lists.helpers[0] * size..][..size]),
@@ -651,6 +645,27 @@ fn layers_for_every_two_numbers() {
     }
     println!("numbers 0 to 11 came up {tally:?}");
     assert!([0, 1, 2, 11].iter().all(|&number: &usize| tally[number] > 100));
+}
+
+/// Orders in which the transfers may run, right or wrong in up to two ways; then the rest of what the call is given.
+#[test]
+fn may_run() {
+    try_cases(20000, &[0, 1, 2, 3, 4, 13], |random| {
+        let mut lists = random.planned();
+        let mut order = random.order(&lists);
+        for _ in 0..random.below(3) {
+            random.spoil_order(lists.shape, &mut order);
+        }
+        let mut numbers = naive::order::numbers(&order);
+        match random.below(10) {
+            0 => random.spoil_shape(&mut lists.shape),
+            1 => spoil_lists(random, &mut lists),
+            2 => drop(numbers.pop()),
+            3 => numbers.insert(random.below(numbers.len() + 1), random.below(lists.shape.n)),
+            _ => {}
+        }
+        compare::may_run(&lists, &numbers)
+    });
 }
 
 /// The ends of the range of shapes, with fifteen layers: written, checked, restored, opened, repaired, packed.

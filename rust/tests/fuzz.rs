@@ -1,6 +1,6 @@
-//! Random and mutated cards, what is packed into them, plan inputs, and lists of losses, library beside naive
-//! implementation, for as many seconds each as the environment's HMSR_FUZZ_SECONDS says (3 if it says nothing).
-//! HMSR_SEED=.. makes another series of inputs.
+//! Random and mutated cards, what is packed into them, plan inputs, lists of losses, and orders of transfers, library
+//! beside naive implementation, for as many seconds each as the environment's HMSR_FUZZ_SECONDS says (3 if it says
+//! nothing). HMSR_SEED=.. makes another series of inputs.
 
 #[path = "naive/compare.rs"]
 mod compare;
@@ -8,7 +8,7 @@ mod naive;
 
 use naive::card::starts_with_1;
 use naive::random::Random;
-use naive::{Header, Shape};
+use naive::{Header, Lists, Shape};
 use std::fmt::Debug;
 use std::time::{Duration, Instant};
 
@@ -17,18 +17,18 @@ fn from_environment(name: &str, otherwise: u64) -> u64 {
 }
 
 /// Tries inputs made by `make` until the time is over; prints how many, and the input of a failure.
-fn fuzz<T: Debug>(make: fn(&mut Random) -> T, compare: impl Fn(&mut Random, &T) -> usize) -> [usize; 12] {
+fn fuzz<T: Debug>(make: fn(&mut Random) -> T, compare: impl Fn(&mut Random, &T) -> usize) -> [usize; 14] {
     let mut random = Random::new(from_environment("HMSR_SEED", 1));
     let time = Duration::from_secs(from_environment("HMSR_FUZZ_SECONDS", 3));
     let start = Instant::now();
-    let mut tally = [0; 12];
+    let mut tally = [0; 14];
     while start.elapsed() < time {
         for _ in 0..100 {
             let input = Shown(make(&mut random));
             tally[compare(&mut random, &input.0)] += 1;
         }
     }
-    println!("numbers 0 to 11 came up {tally:?}");
+    println!("numbers 0 to 13 came up {tally:?}");
     tally
 }
 
@@ -174,9 +174,7 @@ fn plan_input(random: &mut Random) -> Vec<u8> {
     if random.once_in(8) {
         return random_bytes(random);
     }
-    let n = random.between(3, 14);
-    let shape = Shape { n, k: random.between(1, n - 2), layers: random.between(1, 15) };
-    let (dead, helpers) = random.dead_and_helpers(shape);
+    let Lists { shape, dead, helpers } = random.planned();
     let front = [shape.n, shape.k, shape.layers, dead.len()];
     let mut good = Vec::new();
     for &number in front.iter().chain(&dead).chain(&helpers) {
@@ -229,6 +227,56 @@ fn losses(random: &mut Random) -> Losses {
 fn lists_of_losses() {
     let tally = fuzz(losses, |_, input| compare::layers(input.n, input.k, &input.losses));
     for number in [0, 1, 2, 11] {
+        assert!(tally[number] > 0, "number {number} never came up");
+    }
+}
+
+/// A repair, and the numbers of a list of transfers.
+#[derive(Debug)]
+struct Listed {
+    lists: Lists,
+    numbers: Vec<usize>,
+}
+
+/// Changes, flips a bit of, puts in, leaves out or swaps numbers, or cuts them short.
+fn mutate_numbers(random: &mut Random, numbers: &mut Vec<usize>) {
+    if numbers.is_empty() {
+        return numbers.push(number(random));
+    }
+    let (at, other) = (random.below(numbers.len()), random.below(numbers.len()));
+    match random.below(6) {
+        0 => numbers[at] = number(random),
+        1 => numbers[at] ^= 1 << random.below(64),
+        2 => numbers.insert(at, number(random)),
+        3 => drop(numbers.remove(at)),
+        4 => numbers.swap(at, other),
+        _ => numbers.truncate(at),
+    }
+}
+
+/// Transfers in an order in which they may run, or not, and then up to two changes of all that is given.
+fn listed(random: &mut Random) -> Listed {
+    let mut lists = random.planned();
+    let mut order = random.order(&lists);
+    for _ in 0..random.choose(&[0, 0, 1, 2]) {
+        random.spoil_order(lists.shape, &mut order);
+    }
+    let mut numbers = naive::order::numbers(&order);
+    for _ in 0..random.choose(&[0, 0, 1, 2]) {
+        match random.below(8) {
+            0 => mutate_numbers(random, &mut lists.dead),
+            1 => mutate_numbers(random, &mut lists.helpers),
+            2 => random.spoil_shape(&mut lists.shape),
+            _ => mutate_numbers(random, &mut numbers),
+        }
+    }
+    Listed { lists, numbers }
+}
+
+#[test]
+fn orders() {
+    let tally = fuzz(listed, |_, input| compare::may_run(&input.lists, &input.numbers));
+    for number in [0, 1, 2, 3, 4, 13] {
         assert!(tally[number] > 0, "number {number} never came up");
     }
 }

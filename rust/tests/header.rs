@@ -29,6 +29,7 @@ fn assert_header(output: &str) {
     assert_constants(&mut lines);
     assert_cards(&mut lines);
     assert_eq!(lines.next(), Some(LAYERS));
+    assert_eq!(lines.next(), Some(ORDERS));
     for number in numbers() {
         assert_eq!(lines.next(), Some(text(number).as_str()), "the text of {number}");
     }
@@ -48,7 +49,7 @@ fn assert_header(output: &str) {
 fn assert_constants(lines: &mut Lines) {
     let version = env!("CARGO_PKG_VERSION");
     assert_eq!(lines.next(), Some(format!("{version} {version}").as_str()));
-    for (cause, number) in Refusal::ALL.into_iter().zip([1, 2, 3, 4, 5, 6, 7, 11]) {
+    for (cause, number) in Refusal::ALL.into_iter().zip([1, 2, 3, 4, 5, 6, 7, 11, 13]) {
         assert_eq!(lines.next(), Some(format!("{cause:?} {number}").as_str()));
     }
     assert_eq!(lines.next(), Some(format!("6 {}", hmsr::PLAN_TEXT).as_str()));
@@ -57,6 +58,11 @@ fn assert_constants(lines: &mut Lines) {
 /// What choosing layers gives (document 02 §6): 256 and 15 for losses of 2 and 4 nodes, either first, and 1 for no losses,
 /// with a null pointer or another, and 11 for ten nodes; then the refusals 11, 2, 2 and 1.
 const LAYERS: &str = "271 271 257 257 267 11 2 2 1";
+
+/// Whether the transfers of document 01's plan may run (document 02 §12): 0 in its order; 13 without the last, with a pair
+/// behind, with an exchange before a message to its sender, and for no transfers, with a null pointer; then the refusals 4,
+/// 3, 2 and 1.
+const ORDERS: &str = "orders: 0 13 13 13 13 4 3 2 1";
 
 /// What packing document 01's card gives with no hearing number, with 700, with 1 000 000 and with the largest number, and
 /// the header of each card that was made.

@@ -32,12 +32,6 @@ fn random_list(random: &mut Random) -> (usize, usize, Vec<usize>) {
     (shape.n, shape.k, losses)
 }
 
-fn shuffle(random: &mut Random, losses: &mut [usize]) {
-    for last in (1..losses.len()).rev() {
-        losses.swap(last, random.below(last + 1));
-    }
-}
-
 /// "The empty list gives 1."
 #[test]
 fn the_empty_list_needs_one_layer() {
@@ -59,7 +53,7 @@ fn repeats_and_order_change_nothing() {
         let mut once = sorted.clone();
         once.dedup();
         let mut shuffled = losses.clone();
-        shuffle(&mut random, &mut shuffled);
+        random.shuffle(&mut shuffled);
         let doubled = [&losses[..], &losses].concat();
         let mirrored = shuffled.iter().chain(losses.iter().rev()).copied().collect();
         let repeated = losses.iter().flat_map(|&loss| vec![loss; random.between(1, 3)]).collect();
@@ -77,7 +71,7 @@ fn repeats_and_order_change_nothing() {
 #[test]
 fn a_list_may_have_millions_of_losses() {
     let mut losses: Vec<usize> = [1, 2, 3, 4, 5, 7, 9, 11].into_iter().cycle().take(4_000_000).collect();
-    shuffle(&mut Random::new(1), &mut losses);
+    Random::new(1).shuffle(&mut losses);
     assert_eq!(Shape::for_losses(14, 1, &losses), Shape::new(14, 1, 15));
     for (at, loss, refusal) in [
         (3_999_999, 12, Refusal::NoLayers),

@@ -1,6 +1,6 @@
 //! Every cause of every call, alone and with each other cause: the number of the one that document 01 judges first, and
 //! every lent buffer as it was. The numbers here are written out from document 01, and from document 02, §6 for lists of
-//! losses and §9 for hearing numbers.
+//! losses, §9 for hearing numbers and §12 for orders of transfers.
 
 mod naive;
 
@@ -28,6 +28,7 @@ struct Input {
     transcript: Vec<u8>,
     symbols: Vec<u16>,
     received: Vec<u16>,
+    pairs: Vec<usize>,
     lent: usize,
     lent_too: usize,
 }
@@ -53,6 +54,7 @@ fn accepted(symbols: Vec<u16>, lent: usize) -> Input {
         transcript: vec![7; 5],
         symbols,
         received: Vec::new(),
+        pairs: vec![0, 1, 2, 1, 5, 1, 0, 4, 2, 4, 5, 4, 4, 1, 1, 4],
         lent,
         lent_too: 0,
     }
@@ -172,9 +174,9 @@ const RECEIVED: &[Cause] = &[
     ("last received 65535", 5, |i| put_last(&mut i.received, 65535)),
 ];
 
-fn put(symbols: &mut [u16], index: usize, symbol: u16) {
-    if let Some(place) = symbols.get_mut(index) {
-        *place = symbol;
+fn put<T>(elements: &mut [T], index: usize, element: T) {
+    if let Some(place) = elements.get_mut(index) {
+        *place = element;
     }
 }
 
@@ -184,13 +186,13 @@ fn put_last(symbols: &mut [u16], symbol: u16) {
     }
 }
 
-fn shrink(symbols: &mut Vec<u16>) {
-    symbols.pop();
+fn shrink<T>(elements: &mut Vec<T>) {
+    elements.pop();
 }
 
-/// One symbol more, like the last.
-fn grow(symbols: &mut Vec<u16>) {
-    symbols.push(symbols.last().copied().unwrap_or(0));
+/// One element more, like the last.
+fn grow<T: Copy + Default>(elements: &mut Vec<T>) {
+    elements.push(elements.last().copied().unwrap_or_default());
 }
 
 /// Tries each cause alone and with each other one. The causes stand in the order in which they are judged.
@@ -220,10 +222,11 @@ fn changed<T: Clone>(input: &T, changes: &[fn(&mut T)]) -> T {
 }
 
 /// "Elsewhere than in cards and the plan program, several causes yield the first by 1, 2, 3, 4, 5, .., 7" (8 between
-/// them is dropped by document 02 §11), and 11 is "judged after 2" (document 02 §6).
+/// them is dropped by document 02 §11); 11 is "judged after 2" (document 02 §6) and 13 "judged after 4" (§12).
 fn in_order<T>(causes: &[&[Cause<T>]]) -> Vec<Cause<T>> {
     let causes = causes.concat();
-    let ranks: Vec<_> = causes.iter().map(|cause| [1, 2, 11, 3, 4, 5, 7].iter().position(|n| *n == cause.1)).collect();
+    let order = [1, 2, 11, 3, 4, 13, 5, 7];
+    let ranks: Vec<_> = causes.iter().map(|cause| order.iter().position(|number| *number == cause.1)).collect();
     assert!(ranks.iter().all(Option::is_some) && ranks.is_sorted());
     causes
 }
@@ -369,6 +372,51 @@ fn repair() {
         let answer = i.repair().repair(nodes.slice(), wire.slice());
         judged(answer, [nodes, wire])
     });
+}
+
+/// "An odd count of them is 4" (document 02 §12).
+const ODD: &[Cause] = &[
+    ("one number short", 4, |i| shrink(&mut i.pairs)),
+    ("one number more", 4, |i| grow(&mut i.pairs)),
+    ("one number alone", 4, |i| i.pairs = vec![0]),
+    ("the largest number alone", 4, |i| i.pairs = vec![usize::MAX]),
+];
+
+/// Most have places of their own, so that they can be there together.
+const ORDER: &[Cause] = &[
+    ("no transfer", 13, |i| drop(i.pairs.drain(..i.pairs.len() / 2 * 2))),
+    ("the last transfer left out", 13, |i| i.pairs.truncate(14)),
+    ("a transfer doubled", 13, |i| i.pairs.extend([2, 1])),
+    ("a message doubled in place of another", 13, |i| put(&mut i.pairs, 2, 0)),
+    ("an exchange doubled in place of another", 13, |i| {
+        put(&mut i.pairs, 14, 4);
+        put(&mut i.pairs, 15, 1);
+    }),
+    ("an exchange before all messages to its sender", 13, |i| swap(&mut i.pairs, 0, 7)),
+    ("an exchange before the last message to its sender", 13, |i| swap(&mut i.pairs, 5, 6)),
+    ("the sender neither dead nor a helper", 13, |i| put(&mut i.pairs, 6, 3)),
+    ("the receiver a helper", 13, |i| put(&mut i.pairs, 5, 2)),
+    ("the receiver neither dead nor a helper", 13, |i| put(&mut i.pairs, 7, 3)),
+    ("the sender n", 13, |i| put(&mut i.pairs, 4, 6)),
+    ("a helper 2^32 + 2", 13, |i| put(&mut i.pairs, 8, (1 << 32) + 2)),
+    ("a helper's receiver 2^63 + 1", 13, |i| put(&mut i.pairs, 3, (1 << 63) + 1)),
+    ("the sender of an exchange 256 + 4", 13, |i| put(&mut i.pairs, 12, 256 + 4)),
+    ("the receiver of an exchange 2^32 + 4", 13, |i| put(&mut i.pairs, 15, (1 << 32) + 4)),
+    ("the largest numbers behind", 13, |i| i.pairs.extend([usize::MAX; 2])),
+];
+
+/// Swaps two pairs, if both are there.
+fn swap(pairs: &mut [usize], first: usize, second: usize) {
+    let (pairs, _) = pairs.as_chunks_mut::<2>();
+    if pairs.len() > second {
+        pairs.swap(first, second);
+    }
+}
+
+#[test]
+fn may_run() {
+    let causes = in_order(&[SHAPE, DEAD_AND_HELPERS, LAYERS, ODD, ORDER]);
+    try_causes(accepted(vec![], 0), &causes, |i| judged(i.repair().may_run(&i.pairs), []));
 }
 
 /// "Packing judges shape, node, length against k × N (6), buffer sizes, symbols"; a hearing number above 999,999 is 6,

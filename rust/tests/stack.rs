@@ -1,9 +1,12 @@
-//! The stack that a call needs stays small and does not grow with the archive or with a list of losses: each call that
-//! works on an archive is made at the largest shapes by a thread with little stack, and its results are held to what was
-//! written; layers are chosen for a long list. A call that needs more stack ends the whole test program, which names the
-//! thread: each thread has the name of its call.
+//! The stack that a call needs stays small and does not grow with the archive or with a list of losses or transfers: each
+//! call that works on an archive is made at the largest shapes by a thread with little stack, and its results are held to
+//! what was written; layers are chosen, and orders judged, for long lists. A call that needs more stack ends the whole test
+//! program, which names the thread: each thread has the name of its call.
+
+mod naive;
 
 use hmsr::{unpack, Checked, Header, Refusal, Shape};
+use naive::Lists;
 use std::thread;
 
 /// The stack of a thread, in bytes. The buffers stand outside; in them an archive takes 6720 KiB, one node 480 KiB.
@@ -223,4 +226,21 @@ fn layers_chosen() {
     let losses: Vec<usize> = [1, 2, 3, 4, 5, 7, 9, 11].into_iter().cycle().take(1_000_000).collect();
     let shape = with_little_stack("layers", || Shape::for_losses(14, 1, &losses));
     assert_eq!(shape, Shape { nodes: 14, data: 1, layers: 15 });
+}
+
+/// The longest plan and those with many helpers, each also over and over in a list of 8 MB.
+#[test]
+fn orders_judged() {
+    for (k, h, layers) in [(1, 12, 13), (2, 11, 15), (6, 7, 15), (12, 1, 15)] {
+        let shape = naive::Shape { n: 14, k, layers };
+        let lists = Lists { shape, dead: (0..h).collect(), helpers: (h..h + k + 1).collect() };
+        let shape = Shape { nodes: 14, data: k, layers };
+        let repair = hmsr::Repair { shape, dead: &lists.dead, helpers: &lists.helpers };
+        let plan = naive::order::numbers(&lists.transfers());
+        assert_eq!(plan.len(), 2 * h * (k + h));
+        with_little_stack("may_run", || repair.may_run(&plan));
+        let long: Vec<usize> = plan.iter().copied().cycle().take(1_000_000).collect();
+        let answer = with_little_stack("may_run", || Ok(repair.may_run(&long)));
+        assert_eq!(answer, Err(Refusal::BadOrder));
+    }
 }

@@ -1,5 +1,5 @@
-//! The cases whose outcome the programs of `tests/` work out from documents 01 and 02 (§6, §7, §9) alone, run through
-//! the library: each line of a stored file has to come out as it stands there.
+//! The cases whose outcome the programs of `tests/` work out from documents 01 and 02 (§6, §7, §9, §12) alone, run
+//! through the library: each line of a stored file has to come out as it stands there.
 
 mod stored {
     pub mod card;
@@ -7,6 +7,7 @@ mod stored {
     pub mod digest;
     pub mod forms;
     pub mod layers;
+    pub mod order;
     pub mod plan;
     pub mod repair;
     pub mod samples;
@@ -14,7 +15,7 @@ mod stored {
     pub mod trial;
 }
 
-use stored::{card, code, layers, plan, repair, samples, steps};
+use stored::{card, code, layers, order, plan, repair, samples, steps};
 
 /// Tells the first line that differs.
 fn assert_stored(made: &str, stored: &str) {
@@ -57,4 +58,9 @@ fn plans() {
 #[test]
 fn lists_of_losses() {
     assert_stored(&layers::lines(), include_str!("../../tests/stored/layers.txt"));
+}
+
+#[test]
+fn orders_of_transfers() {
+    assert_stored(&order::lines(), include_str!("../../tests/stored/order.txt"));
 }

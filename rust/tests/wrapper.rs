@@ -91,6 +91,7 @@ fn empty_lists_are_refused() {
     for (dead, helpers) in [(&[][..], &[1, 2][..]), (&[0], &[])] {
         let repair = Repair { shape: SHAPE, dead, helpers };
         assert_eq!(repair.repair_nodes(&mut nodes), Err(Refusal::BadNodes));
+        assert_eq!(repair.may_run(&[]), Err(Refusal::BadNodes));
     }
 }
 
@@ -116,6 +117,7 @@ fn every_call_judges_every_shape() {
         judged(repair.first_step(0, &[0; 3], &mut [0; 3], &mut [0; 3]));
         judged(repair.second_step(0, &[0; 3], &[0; 3], &mut [0; 3]));
         judged(repair.repair(&mut [0; 3], &mut [0; 3]));
+        judged(repair.may_run(&[usize::MAX; 3]));
         for hearing in [0, 700, usize::MAX] {
             judged(Header { shape, node: 0, length: 0, hearing }.pack(&[0; 3], &mut [0; 3]).map(drop));
         }
@@ -145,6 +147,49 @@ fn the_layers_found_are_told_from_a_refusal() {
     assert_eq!(Shape::for_losses(12, 1, &[10, 11]), Err(Refusal::BadNodes));
 }
 
+/// Document 01's plan as numbers and as pairs: each prefix of it, and it whole in its order and backwards.
+#[test]
+fn an_order_of_pairs_is_judged_as_its_numbers_are() {
+    let repair = Repair { shape: Shape { nodes: 4, data: 1, layers: 3 }, dead: &[0, 1], helpers: &[2, 3] };
+    let mut pairs = [(2, 0), (3, 0), (2, 1), (3, 1), (1, 0), (0, 1)];
+    let numbers = [2, 0, 3, 0, 2, 1, 3, 1, 1, 0, 0, 1];
+    assert_eq!((repair.may_run(&numbers), repair.may_run_pairs(&pairs)), (Ok(()), Ok(())));
+    for length in 0..numbers.len() {
+        let refusal = if length % 2 == 0 { Refusal::BadOrder } else { Refusal::WrongLength };
+        assert_eq!(repair.may_run(&numbers[..length]), Err(refusal), "{length} numbers");
+    }
+    for length in 0..pairs.len() {
+        assert_eq!(repair.may_run_pairs(&pairs[..length]), Err(Refusal::BadOrder), "{length} pairs");
+    }
+    pairs.reverse();
+    assert_eq!(repair.may_run_pairs(&pairs), Err(Refusal::BadOrder));
+    let one_dead = Repair { dead: &[1], ..repair };
+    assert_eq!((one_dead.may_run(&[3, 1, 2, 1]), one_dead.may_run_pairs(&[(3, 1), (2, 1)])), (Ok(()), Ok(())));
+}
+
+/// Refusals are the same for both forms, whatever the list; but pairs are never odd.
+#[test]
+fn both_forms_of_an_order_are_refused_alike() {
+    let shape = |layers| Shape { nodes: 4, data: 1, layers };
+    for (layers, dead, helpers, refusal) in [
+        (0, &[0, 1][..], &[2, 3][..], Refusal::BadShape),
+        (1, &[0, 4], &[2, 3], Refusal::BadNodes),
+        (3, &[0, 1], &[1, 2], Refusal::BadNodes),
+        (3, &[0], &[usize::MAX], Refusal::BadNodes),
+        (1, &[0, 1], &[2, 3], Refusal::PartBatch),
+        (14, &[0, 1], &[2, 3], Refusal::PartBatch),
+        (3, &[0, 1], &[2, 3], Refusal::BadOrder),
+    ] {
+        let repair = Repair { shape: shape(layers), dead, helpers };
+        for pair in [(0, 0), (2, 0), (1 << 63, usize::MAX)] {
+            assert_eq!(repair.may_run(&[pair.0, pair.1]), Err(refusal), "{repair:?}");
+            assert_eq!(repair.may_run_pairs(&[pair]), Err(refusal), "{repair:?}");
+        }
+        let odd = if refusal == Refusal::BadOrder { Refusal::WrongLength } else { refusal };
+        assert_eq!(repair.may_run(&[2, 0, 3]), Err(odd), "{repair:?}");
+    }
+}
+
 #[test]
 fn conveniences_and_sizes_judge_every_shape() {
     for shape in hostile_shapes() {
@@ -162,6 +207,7 @@ fn conveniences_and_sizes_judge_every_shape() {
         judged(repair.first_step_to_vec(0, &[0; 3]).map(drop));
         judged(repair.second_step_to_vec(0, &[0; 3], &[0; 3]).map(drop));
         judged(repair.repair_nodes(&mut [0; 3]).map(drop));
+        judged(repair.may_run_pairs(&[(usize::MAX, 0)]));
         let far = Header { shape, node: usize::MAX, length: usize::MAX, hearing: usize::MAX };
         judged(far.pack_to_vec(&[0; 3]).map(drop));
         for dead_count in NUMBERS {
@@ -373,7 +419,7 @@ fn a_plan_needs_its_room_and_no_more_is_touched() {
 
 #[test]
 fn refusals_have_their_numbers_and_one_sentence() {
-    let numbers = [1, 2, 3, 4, 5, 6, 7, 11];
+    let numbers = [1, 2, 3, 4, 5, 6, 7, 11, 13];
     assert_eq!(Refusal::ALL.map(Refusal::number), numbers);
     for cause in Refusal::ALL {
         assert_eq!(Refusal::from_number(cause.number()), Some(cause));

@@ -9,7 +9,8 @@ use super::text::shown;
 /// One line for the user. The kinds are those that a script can tell apart.
 #[derive(Debug)]
 pub enum Failure {
-    /// The transcript is there, but cards are missing or wrong: something is to be done.
+    /// Something is to be done: the transcript is there, but cards are missing or wrong; or transfers may not run in
+    /// the order of their list.
     Repairable(String),
     /// The transcript cannot be had from these cards, or it cannot be told which cards are right.
     Lost(String),

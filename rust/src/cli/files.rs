@@ -5,6 +5,7 @@ use std::os::unix::fs::OpenOptionsExt;
 use std::path::{Path, PathBuf};
 
 use super::temporary::Temporary;
+use super::text::shown;
 use super::Failure;
 
 /// The flag with which opening a FIFO does not wait for its other end.
@@ -33,6 +34,27 @@ pub fn read_bounded(source: impl Read, most: usize) -> io::Result<Option<Vec<u8>
     let mut bytes = Vec::new();
     source.take(most as u64 + 1).read_to_end(&mut bytes)?;
     Ok(Some(bytes).filter(|bytes| bytes.len() <= most))
+}
+
+/// The bytes of a file or, for `-`, of standard input; `None` where there are more than the most.
+pub fn read_input(file: &Path, most: usize) -> Result<Option<Vec<u8>>, Failure> {
+    let bytes = match is_standard_input(file) {
+        true => read_bounded(io::stdin().lock(), most),
+        false => read(file, most),
+    };
+    bytes.map_err(|e| Failure::Io(format!("cannot read {}: {e}", input_name(file))))
+}
+
+/// What the user is told that was read.
+pub fn input_name(file: &Path) -> String {
+    match is_standard_input(file) {
+        true => "standard input".to_string(),
+        false => shown(file),
+    }
+}
+
+fn is_standard_input(file: &Path) -> bool {
+    file == Path::new("-")
 }
 
 /// Opens without waiting.

@@ -14,13 +14,16 @@ mod json;
 mod layers;
 mod obstacles;
 mod open;
+mod order;
 mod plan;
 mod repair;
+mod rules;
 #[allow(unsafe_code)]
 mod signals;
 mod temporary;
 mod text;
 mod traffic;
+mod transfers;
 mod usage;
 mod write;
 
@@ -60,7 +63,7 @@ struct Command {
     run: fn(&Args) -> Result<Report, Failure>,
 }
 
-const COMMANDS: [Command; 8] = [
+const COMMANDS: [Command; 9] = [
     Command {
         name: "write",
         words: &["FILE", "DIR"],
@@ -101,6 +104,14 @@ const COMMANDS: [Command; 8] = [
         options: &["--nodes", "--data", "--layers", "--dead", "--helpers"],
         flags: &["--json"],
         run: plan::run,
+    },
+    Command {
+        name: "order",
+        words: &["FILE"],
+        repeats: false,
+        options: &["--nodes", "--data", "--layers", "--dead", "--helpers"],
+        flags: &["--json"],
+        run: order::run,
     },
     Command { name: "info", words: &["CARD"], repeats: true, options: &[], flags: &["--json"], run: info::run },
     Command { name: "demo", words: &[], repeats: false, options: &[], flags: &[], run: demo::run },

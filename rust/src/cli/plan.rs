@@ -52,9 +52,14 @@ fn for_programs(shape: Shape, dead: &[usize], helpers: &[usize]) -> Result<Strin
 pub fn text(shape: Shape, dead: &[usize], helpers: &[usize]) -> Result<String, Failure> {
     let text = String::from_utf8_lossy(&plan_text(&Repair { shape, dead, helpers }.plan_input())).into_owned();
     match text.trim_end().parse().ok().and_then(Refusal::from_number) {
-        Some(refusal) => Err(Failure::refused(Failure::Usage, "there is no such repair", refusal, advice(refusal))),
+        Some(refusal) => Err(refused(refusal)),
         None => Ok(text),
     }
+}
+
+/// A repair that the library refuses.
+pub fn refused(refusal: Refusal) -> Failure {
+    Failure::refused(Failure::Usage, "there is no such repair", refusal, advice(refusal))
 }
 
 /// The messages of a plan, which its text has between the first and the last line.

@@ -31,6 +31,14 @@ pub fn listed(numbers: &[usize]) -> String {
     joined(numbers.iter().map(usize::to_string))
 }
 
+/// "2", "2 and 4", "2, 4 and 5".
+pub fn listed_with_and(numbers: &[usize]) -> String {
+    match numbers {
+        [others @ .., last] if !others.is_empty() => format!("{} and {last}", listed(others)),
+        _ => listed(numbers),
+    }
+}
+
 /// "node 3", "nodes 1, 4".
 pub fn nodes_listed(nodes: &[usize]) -> String {
     match nodes {
@@ -44,7 +52,7 @@ pub fn losses_listed(losses: &[usize]) -> String {
     match losses {
         [] => "no loss".to_string(),
         [loss] => format!("a loss of {}", counted(*loss, "node")),
-        [others @ .., last] => format!("losses of {} and {last} nodes", listed(others)),
+        _ => format!("losses of {} nodes", listed_with_and(losses)),
     }
 }
 

@@ -1,7 +1,7 @@
 //! How each command is called, as `--help` shows it.
 
 /// A command, how it is called and what it does.
-const USAGES: [(&str, &str); 8] = [
+const USAGES: [(&str, &str); 9] = [
     (
         "write",
         "\
@@ -53,6 +53,15 @@ hmsr plan --nodes N --data K --layers L --dead LIST --helpers LIST [--json]
 ",
     ),
     (
+        "order",
+        "\
+hmsr order --nodes N [--data K] [--layers L] --dead LIST --helpers LIST FILE [--json]
+        whether the transfers of a repair may run one by one in the order of FILE, which has a sender and a receiver on
+        each line (FILE - is standard input); if not, the first line that breaks a rule, and the rule; without --data, K
+        is one less than the helpers, and without --layers, L is the fewest that serve the loss
+",
+    ),
+    (
         "info",
         "\
 hmsr info CARD... [--json]
@@ -83,8 +92,8 @@ hmsr --version
 --quiet prints no report, --json prints it for programs to read (info: a line for each card), -- ends the options.
 
 Exit status: 0 sound or done; 1 the transcript is there, but cards are missing or wrong: repair; 2 it is lost, or it
-cannot be told which cards are right; 3 wrong arguments; 4 a file cannot be read or written. All but 0 with one line on
-standard error.
+cannot be told which cards are right; 3 wrong arguments; 4 a file cannot be read or written. Of order: 0 yes, 1 no, 3
+also a malformed list. All but 0 with one line on standard error.
 ";
 
 /// Of all commands.

@@ -55,7 +55,7 @@ fn hearing(args: &Args) -> Result<usize, Failure> {
 /// Writes the file's bytes into cards in the directory, which is made where it is not there.
 pub fn write(file: &Path, directory: &Path, wanted: &Wanted) -> Result<String, Failure> {
     let &Wanted { nodes, data, layers, hearing } = wanted;
-    let bytes = transcript(file, choice::most_bytes(nodes, data)?)?;
+    let bytes = files::read_input(file, choice::most_bytes(nodes, data)?)?;
     // A transcript of more than the most bytes was not read; a length that no archive holds stands for it.
     let length = bytes.as_ref().map_or(usize::MAX, Vec::len);
     let shape = choice::choose(nodes, data, layers, length)?;
@@ -70,15 +70,6 @@ pub fn write(file: &Path, directory: &Path, wanted: &Wanted) -> Result<String, F
         choice::described(shape),
         hearing_line(hearing)
     ))
-}
-
-/// The bytes of a file or, for `-`, of standard input; `None` where there are more than the most.
-fn transcript(file: &Path, most: usize) -> Result<Option<Vec<u8>>, Failure> {
-    if file == Path::new("-") {
-        let read = files::read_bounded(io::stdin().lock(), most);
-        return read.map_err(|e| Failure::Io(format!("cannot read standard input: {e}")));
-    }
-    files::read(file, most).map_err(|e| Failure::of_path("read", file, &e))
 }
 
 /// The card of each node.

@@ -54,7 +54,7 @@ fn a_number_that_is_too_large_is_told_from_one_that_is_none() {
 fn help_and_version_are_shown() {
     let place = Place::new("help");
     assert_eq!(place.does("--version"), format!("hmsr {}\n", env!("CARGO_PKG_VERSION")));
-    let commands = ["write", "check", "open", "repair", "layers", "plan", "info", "demo"];
+    let commands = ["write", "check", "open", "repair", "layers", "plan", "order", "info", "demo"];
     for line in ["--help", "-h", "help"] {
         let help = place.does(line);
         assert!(commands.iter().all(|command| help.contains(&format!("\nhmsr {command}"))), "{line}: {help}");

@@ -4,6 +4,7 @@ use std::collections::BTreeMap;
 #[derive(Debug, PartialEq)]
 pub enum Json {
     Null,
+    Truth(bool),
     Number(u64),
     Text(String),
     Array(Vec<Json>),
@@ -50,6 +51,14 @@ fn value(rest: &mut &str) -> Json {
         Some('[') => Json::Array(listed(rest, ']', value)),
         Some('"') => Json::Text(string(rest)),
         Some('0'..='9') => number(rest),
+        Some('t') => {
+            take(rest, "true");
+            Json::Truth(true)
+        }
+        Some('f') => {
+            take(rest, "false");
+            Json::Truth(false)
+        }
         _ => {
             take(rest, "null");
             Json::Null

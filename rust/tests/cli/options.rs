@@ -172,4 +172,10 @@ fn exit_statuses_are_those_of_the_readme() {
     assert_eq!(status("plan --nodes 4 --data 1 --layers 1 --dead 0,1 --helpers 2,3"), 3);
     assert_eq!(status("layers --nodes 12 --data 6 --losses 2,4"), 0);
     assert_eq!(status("layers --nodes 12 --data 5 --losses 2,6"), 3);
+    let order = "order --nodes 3 --dead 0 --helpers 1,2";
+    for (list, expected) in [("2 0\n1 0\n", 0), ("2 0\n", 1), ("two\n", 3)] {
+        fs::write(place.path("list"), list).unwrap();
+        assert_eq!(status(&format!("{order} list")), expected, "{list}");
+    }
+    assert_eq!(status(&format!("{order} nowhere")), 4);
 }

@@ -1,5 +1,6 @@
-/* Prints the header's constants, a card of each form with its header's numbers, what choosing layers gives, the texts, and every size for
- * all shapes and losses of the numbers given, with what the library says to buffers of these sizes. It is compiled as C and as C++. */
+/* Prints the header's constants, a card of each form with its header's numbers, what choosing layers gives, whether transfers may run in
+ * some orders, the texts, and every size for all shapes and losses of the numbers given, with what the library says to buffers of these
+ * sizes. It is compiled as C and as C++. */
 #include <stdio.h>
 #include <stdlib.h>
 #include <string.h>
@@ -17,7 +18,7 @@ static void print_constants(void) {
     printf("%s %d.%d.%d\n", HMSR_VERSION, HMSR_VERSION_MAJOR, HMSR_VERSION_MINOR, HMSR_VERSION_PATCH);
     printf("BadShape %d\nBadNodes %d\nPartBatch %d\n", HMSR_BAD_SHAPE, HMSR_BAD_NODES, HMSR_PART_BATCH);
     printf("WrongLength %d\nBadSymbol %d\nMalformed %d\n", HMSR_WRONG_LENGTH, HMSR_BAD_SYMBOL, HMSR_MALFORMED);
-    printf("NoTranscript %d\nNoLayers %d\n", HMSR_NO_TRANSCRIPT, HMSR_NO_LAYERS);
+    printf("NoTranscript %d\nNoLayers %d\nBadOrder %d\n", HMSR_NO_TRANSCRIPT, HMSR_NO_LAYERS, HMSR_BAD_ORDER);
     printf("%d %d\n", HMSR_HEADER, HMSR_PLAN_TEXT);
 }
 
@@ -43,6 +44,27 @@ static void print_layers(void) {
     printf(" %zu %zu", hmsr_layers(12, 1, losses + 4, 1), hmsr_layers(12, 5, losses + 2, 2));
     printf(" %zu %zu", hmsr_layers(12, 6, losses + 2, 2), hmsr_layers(12, 1, losses + 2, 4));
     printf(" %zu\n", hmsr_layers(2, 1, losses, 6));
+}
+
+/* The first h nodes are dead and the k + 1 behind them help: document 01's example where n is 4, k is 1 and h is 2. */
+static void print_may_run(size_t n, size_t k, size_t layers, size_t h, const size_t *pairs, size_t count) {
+    printf(" %zu", hmsr_may_run(n, k, layers, nodes, h, nodes + h, k + 1, pairs, count));
+}
+
+static void print_orders(void) {
+    const size_t plan[] = {2, 0, 3, 0, 2, 1, 3, 1, 1, 0, 0, 1, SIZE_MAX, SIZE_MAX};
+    const size_t early[] = {2, 1, 1, 0, 3, 1, 2, 0, 3, 0, 0, 1};
+    printf("orders:");
+    print_may_run(4, 1, 3, 2, plan, 12);
+    print_may_run(4, 1, 3, 2, plan, 10);
+    print_may_run(4, 1, 3, 2, plan, 14);
+    print_may_run(4, 1, 3, 2, early, 12);
+    print_may_run(4, 1, 3, 2, NULL, 0);
+    print_may_run(4, 1, 3, 2, plan, 13);
+    print_may_run(4, 1, 2, 2, plan, 13);
+    print_may_run(4, 1, 2, 3, plan, 13);
+    print_may_run(4, 3, 2, 3, plan, 13);
+    printf("\n");
 }
 
 static void print_shape(size_t n, size_t k, size_t layers) {
@@ -73,6 +95,7 @@ int main(int count, char **words) {
     print_card(1000000);
     print_card(SIZE_MAX);
     print_layers();
+    print_orders();
     for (i = 1; i < count && i < 64; i++) {
         numbers[i] = (size_t)strtoull(words[i], NULL, 10);
         printf("%s\n", hmsr_refusal_text(numbers[i]));

@@ -1,9 +1,12 @@
-//! The naive implementation checked on its own: the samples of document 01, a card with a hearing number and lists of
-//! losses (document 02), the parity equations by their definition, transcripts opened from any nodes, and repairs.
+//! The naive implementation checked on its own: the samples of document 01, a card with a hearing number, lists of losses
+//! and orders of transfers (document 02), the parity equations by their definition, transcripts opened from any nodes, and
+//! repairs, whole and one transfer after the other.
 
 use super::naive::card::{put_number, take_number};
 use super::naive::code::point;
 use super::naive::field::{power, MODULUS, POINTS};
+use super::naive::judge::batch_layers;
+use super::naive::order::{numbers, run};
 use super::naive::random::Random;
 use super::naive::repair::Repair;
 use super::naive::*;
@@ -139,6 +142,30 @@ fn sample_losses() {
     assert_eq!(alone, [1, 3, 1, 5, 3, 7, 1, 9, 5, 11, 3, 13]);
 }
 
+/// Document 01's plan (n = 4, k = 1, L = 3, nodes 0 and 1 dead, helpers 2 and 3) in its own order and in others, by hand
+/// (document 02 §12).
+#[test]
+fn sample_orders() {
+    let shape = Shape { n: 4, k: 1, layers: 3 };
+    let lists = Lists { shape, dead: vec![0, 1], helpers: vec![2, 3] };
+    assert_eq!(lists.transfers(), [(2, 0), (3, 0), (2, 1), (3, 1), (1, 0), (0, 1)]);
+    assert_eq!(may_run(&lists, &[2, 0, 3, 0, 2, 1, 3, 1, 1, 0, 0, 1]), Ok(()));
+    // Node 1 has both messages when it sends, though node 0 has none.
+    assert_eq!(may_run(&lists, &[3, 1, 2, 1, 1, 0, 2, 0, 3, 0, 0, 1]), Ok(()));
+    // It sends before helper 3 has.
+    assert_eq!(may_run(&lists, &[2, 1, 1, 0, 3, 1, 2, 0, 3, 0, 0, 1]), Err(13));
+    // A transfer is missing, doubled, or none of the plan's.
+    assert_eq!(may_run(&lists, &[2, 0, 3, 0, 2, 1, 3, 1, 1, 0]), Err(13));
+    assert_eq!(may_run(&lists, &[2, 0, 3, 0, 2, 1, 3, 1, 1, 0, 0, 1, 2, 0]), Err(13));
+    assert_eq!(may_run(&lists, &[2, 0, 3, 0, 2, 1, 3, 1, 1, 0, 0, 1, 9, 0]), Err(13));
+    assert_eq!(may_run(&lists, &[]), Err(13));
+    assert_eq!(may_run(&lists, &[2, 0, 3, 0, 2, 1, 3, 1, 1, 0, 0, 1, 2]), Err(4));
+    let with_layers = |layers| Lists { shape: Shape { layers, ..shape }, ..lists.clone() };
+    assert_eq!(may_run(&with_layers(2), &[2]), Err(3));
+    assert_eq!(may_run(&Lists { dead: vec![0, 2], ..with_layers(2) }, &[2]), Err(2));
+    assert_eq!(may_run(&Lists { dead: vec![0, 2], ..with_layers(0) }, &[2]), Err(1));
+}
+
 #[test]
 fn empty_transcript() {
     assert_eq!(write(SMALL, &[], 24), Ok(vec![0; 24]));
@@ -198,4 +225,30 @@ fn repairs_are_exact() {
             Err(number) => assert_eq!(number, 3),
         }
     }
+}
+
+/// Codewords and other symbols, in orders in which the transfers may run; in an order that breaks the rule, a message is
+/// missing when it is needed.
+#[test]
+fn transfers_run_one_by_one_are_a_repair() {
+    let mut random = Random::new(3);
+    let mut refused = 0;
+    for _ in 0..200 {
+        let n = random.between(3, 7);
+        let mut shape = Shape { n, k: random.between(1, n - 2), layers: 1 };
+        let (dead, helpers) = random.dead_and_helpers(shape);
+        shape.layers = batch_layers(dead.len());
+        let lists = Lists { shape, dead, helpers };
+        let nodes = if random.once_in(2) { random.codeword(shape) } else { random.symbols(shape.n * shape.symbols()) };
+        let mut order = random.order(&lists);
+        let wire_length = order.len() * lists.message_length();
+        let whole = repair(shape, &lists.dead, &lists.helpers, &nodes, wire_length);
+        assert_eq!(run(&lists, &lists, &nodes, &order).ok_or(13), whole);
+        order.reverse();
+        let expected = may_run(&lists, &numbers(&order)).and(whole);
+        refused += usize::from(expected.is_err());
+        assert_eq!(run(&lists, &lists, &nodes, &order).ok_or(13), expected);
+    }
+    println!("{refused} orders could not be run");
+    assert!((50..150).contains(&refused));
 }

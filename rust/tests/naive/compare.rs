@@ -3,8 +3,9 @@
 #![allow(dead_code)] // each test program uses a part of it
 
 use super::naive::lent::Lent;
+use super::naive::plan::Transfer;
 use super::naive::random::Random;
-use super::naive::{self, Fault, Header, Number, Shape};
+use super::naive::{self, Fault, Header, Lists, Number, Shape};
 use hmsr::{Checked, Refusal};
 
 pub fn library(shape: Shape) -> hmsr::Shape {
@@ -73,18 +74,8 @@ pub fn open(
     number
 }
 
-/// What all calls of a repair are given.
-#[derive(Clone, Debug)]
-pub struct Lists {
-    pub shape: Shape,
-    pub dead: Vec<usize>,
-    pub helpers: Vec<usize>,
-}
-
-impl Lists {
-    fn library(&self) -> hmsr::Repair<'_> {
-        hmsr::Repair { shape: library(self.shape), dead: &self.dead, helpers: &self.helpers }
-    }
+pub fn library_repair(lists: &Lists) -> hmsr::Repair<'_> {
+    hmsr::Repair { shape: library(lists.shape), dead: &lists.dead, helpers: &lists.helpers }
 }
 
 pub fn helper_message(
@@ -92,7 +83,7 @@ pub fn helper_message(
 ) -> Number {
     let Lists { shape, dead, helpers } = lists;
     let mut message = Lent::symbols(random, message_length);
-    let answer = lists.library().helper_message(helper, new, symbols, message.slice());
+    let answer = library_repair(lists).helper_message(helper, new, symbols, message.slice());
     let expected = naive::helper_message(*shape, dead, helpers, helper, new, symbols, message_length);
     let (number, made) = agreed(answer, expected);
     message.assert_holds(&made);
@@ -105,7 +96,7 @@ pub fn first_step(
     let Lists { shape, dead, helpers } = lists;
     let mut pairs = Lent::symbols(random, pairs_length);
     let mut sums = Lent::symbols(random, sums_length);
-    let answer = lists.library().first_step(new, messages, pairs.slice(), sums.slice());
+    let answer = library_repair(lists).first_step(new, messages, pairs.slice(), sums.slice());
     let expected = naive::first_step(*shape, dead, helpers, new, messages, pairs_length, sums_length);
     let (number, made) = agreed(answer, expected);
     pairs.assert_holds(&made.0);
@@ -118,7 +109,7 @@ pub fn second_step(
 ) -> Number {
     let Lists { shape, dead, helpers } = lists;
     let mut symbols = Lent::symbols(random, symbols_length);
-    let answer = lists.library().second_step(new, pairs, received, symbols.slice());
+    let answer = library_repair(lists).second_step(new, pairs, received, symbols.slice());
     let expected = naive::second_step(*shape, dead, helpers, new, pairs, received, symbols_length);
     let (number, made) = agreed(answer, expected);
     symbols.assert_holds(&made);
@@ -129,7 +120,7 @@ pub fn repair(random: &mut Random, lists: &Lists, before: &[u16], wire_length: u
     let Lists { shape, dead, helpers } = lists;
     let mut nodes = Lent::around(before);
     let mut wire = Lent::symbols(random, wire_length);
-    let answer = lists.library().repair(nodes.slice(), wire.slice());
+    let answer = library_repair(lists).repair(nodes.slice(), wire.slice());
     let (number, made) = agreed(answer, naive::repair(*shape, dead, helpers, before, wire_length));
     nodes.assert_holds(&made.0);
     wire.assert_holds(&made.1);
@@ -168,6 +159,17 @@ pub fn layers(n: usize, k: usize, losses: &[usize]) -> Number {
     let answer = hmsr::Shape::for_losses(n, k, losses);
     assert_eq!(answer.map_err(Refusal::number), expected);
     answer.err().map_or(0, Refusal::number)
+}
+
+/// The library's answer to a list of numbers is the naive one, and so is that to the same list as pairs.
+pub fn may_run(lists: &Lists, numbers: &[usize]) -> Number {
+    let answer = library_repair(lists).may_run(numbers);
+    let (pairs, left_over) = numbers.as_chunks();
+    if left_over.is_empty() {
+        let pairs: Vec<Transfer> = pairs.iter().map(|&[sender, receiver]| (sender, receiver)).collect();
+        assert_eq!(library_repair(lists).may_run_pairs(&pairs), answer);
+    }
+    agreed(answer, naive::may_run(lists, numbers)).0
 }
 
 /// The number that the plan's text is, and 0 for a plan; 4 where the text buffer is too short.

@@ -1,4 +1,4 @@
-//! The shape of an archive, and the causes 1 to 5 of "When a call turns back".
+//! The shape of an archive, the lists of a repair, and the causes 1 to 5 of "When a call turns back".
 
 /// A refusal number of documents 01 and 02.
 pub type Number = usize;
@@ -32,7 +32,27 @@ impl Shape {
     }
 }
 
-fn refuse_unless(holds: bool, number: Number) -> Result<(), Number> {
+/// What all calls of a repair are given.
+#[derive(Clone, Debug)]
+pub struct Lists {
+    pub shape: Shape,
+    pub dead: Vec<usize>,
+    pub helpers: Vec<usize>,
+}
+
+impl Lists {
+    /// N/(h+1), rounded down where N is not a multiple.
+    pub fn message_length(&self) -> usize {
+        self.shape.symbols() / (self.dead.len() + 1)
+    }
+
+    /// The other dead nodes.
+    pub fn fellows(&self, new: usize) -> Vec<usize> {
+        self.dead.iter().copied().filter(|&node| node != new).collect()
+    }
+}
+
+pub fn refuse_unless(holds: bool, number: Number) -> Result<(), Number> {
     if holds {
         Ok(())
     } else {

@@ -10,13 +10,15 @@ pub mod field;
 pub mod judge;
 pub mod layers;
 pub mod lent;
+pub mod order;
 pub mod plan;
 pub mod random;
 pub mod repair;
 
 pub use card::{pack, pack_before, unpack, unpack_before, Header};
 pub use code::{check, open, restore, write, Fault};
-pub use judge::{Number, Shape};
+pub use judge::{Lists, Number, Shape};
 pub use layers::layers;
+pub use order::may_run;
 pub use plan::plan;
 pub use repair::{first_step, helper_message, repair, second_step};

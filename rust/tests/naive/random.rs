@@ -1,6 +1,8 @@
 //! A small seeded generator, and random inputs for the tests.
 
-use super::{restore, Header, Shape};
+use super::judge::batch_layers;
+use super::plan::Transfer;
+use super::{restore, Header, Lists, Shape};
 
 /// SplitMix64.
 pub struct Random(u64);
@@ -57,6 +59,12 @@ impl Random {
 
     pub fn bytes(&mut self, count: usize) -> Vec<u8> {
         (0..count).map(|_| self.next() as u8).collect()
+    }
+
+    pub fn shuffle<T>(&mut self, list: &mut [T]) {
+        for last in (1..list.len()).rev() {
+            list.swap(last, self.below(last + 1));
+        }
     }
 
     /// So many of the given nodes, in the order given.
@@ -119,6 +127,64 @@ impl Random {
         (dead, helpers)
     }
 
+    /// A repair of any size, accepted but for the layers now and then.
+    pub fn planned(&mut self) -> Lists {
+        let n = self.between(3, 14);
+        let mut shape = Shape { n, k: self.between(1, n - 2), layers: self.between(1, 15) };
+        let (dead, helpers) = self.dead_and_helpers(shape);
+        let s = batch_layers(dead.len());
+        if !self.once_in(8) {
+            shape.layers = self.between(1, 15 / s) * s;
+        }
+        Lists { shape, dead, helpers }
+    }
+
+    /// The plan's transfers in an order in which they may run: the helpers' messages anyhow, and each exchange anywhere
+    /// behind those to its sender, often directly.
+    pub fn order(&mut self, lists: &Lists) -> Vec<Transfer> {
+        let helps = |transfer: &Transfer| lists.helpers.contains(&transfer.0);
+        let (mut order, exchanges): (Vec<_>, Vec<_>) = lists.transfers().into_iter().partition(helps);
+        self.shuffle(&mut order);
+        for exchange in exchanges {
+            let told_last = order.iter().rposition(|transfer| helps(transfer) && transfer.1 == exchange.0).unwrap();
+            let later = self.between(told_last + 1, order.len());
+            order.insert(self.choose(&[told_last + 1, later]), exchange);
+        }
+        order
+    }
+
+    /// A pair beside a transfer: another node for one of its numbers, or something far off, or its numbers in other places.
+    pub fn other_pair(&mut self, shape: Shape, (sender, receiver): Transfer) -> Transfer {
+        let node = self.below(shape.n + 2);
+        let (far_sender, far_receiver) = (self.hostile(sender), self.hostile(receiver));
+        self.choose(&[
+            (node, receiver),
+            (sender, node),
+            (far_sender, receiver),
+            (sender, far_receiver),
+            (receiver, sender),
+            (receiver, receiver),
+        ])
+    }
+
+    /// Changes the list in one of the ways in which an order can be wrong; a swap may leave it right.
+    pub fn spoil_order(&mut self, shape: Shape, order: &mut Vec<Transfer>) {
+        if order.is_empty() {
+            return order.push((0, 1));
+        }
+        let (at, other) = (self.below(order.len()), self.below(order.len()));
+        match self.below(9) {
+            0 | 1 => order.swap(at, other),
+            2 => drop(order.remove(at)),
+            3 => order.insert(at, order[other]),
+            4 => order[at] = order[other],
+            5 => order[at] = self.other_pair(shape, order[at]),
+            6 => order.push(self.other_pair(shape, order[at])),
+            7 => self.shuffle(order),
+            _ => order.truncate(at),
+        }
+    }
+
     /// n and k, with one layer, more often those that allow large losses; and losses that they allow, from none to
     /// thousands, of up to four sizes, so that often some layers serve them all, and sometimes none do.
     pub fn losses(&mut self) -> (Shape, Vec<usize>) {
@@ -163,7 +229,7 @@ impl Random {
         let low = number.wrapping_sub(1);
         let truncates = number.wrapping_add(1 << self.choose(&[8, 16, 32, 63]));
         let far = self.choose(&[0, 2, 15, 16, 64, 255, 256, 65535, usize::MAX, usize::MAX / 2 + 1]);
-        self.choose(&[low, number + 1, truncates, far])
+        self.choose(&[low, number.wrapping_add(1), truncates, far])
     }
 
     pub fn spoil_shape(&mut self, shape: &mut Shape) {
@@ -172,7 +238,7 @@ impl Random {
             1 => {
                 shape.k = {
                     let far = self.hostile(shape.k);
-                    self.choose(&[far, shape.n - 1, shape.n, 0])
+                    self.choose(&[far, shape.n.wrapping_sub(1), shape.n, 0])
                 }
             }
             _ => {

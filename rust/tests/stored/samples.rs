@@ -1,5 +1,6 @@
 //! The samples of document 01, and a card with a hearing number (document 02 §9): each call's answer and what it left in
-//! its buffers, a line for each; then the answers for lists of losses (document 02 §6), which fill no buffer.
+//! its buffers, a line for each; then the answers for lists of losses and orders of transfers (document 02 §6, §12), which
+//! fill no buffer.
 
 use super::digest::{line, number};
 use hmsr::{unpack, Header, Refusal, Repair, Shape};
@@ -89,6 +90,21 @@ fn chosen_layers() -> String {
     line(&served) + &line(&refused) + &line(&eleven)
 }
 
+/// The answer for an order of document 01's plan: "for input bytes 4 1 3 2 0 1 2 3".
+fn may_run(list: &[usize]) -> u64 {
+    let shape = Shape { nodes: 4, data: 1, layers: 3 };
+    number(Repair { shape, dead: &[0, 1], helpers: &[2, 3] }.may_run(list)) as u64
+}
+
+/// The plan as it stands, in other orders, cut and extended.
+fn orders() -> String {
+    let plan = [2, 0, 3, 0, 2, 1, 3, 1, 1, 0, 0, 1];
+    let with = |behind: &[usize]| may_run(&[&plan, behind].concat());
+    let (early, too_early) = ([3, 1, 2, 1, 1, 0, 2, 0, 3, 0, 0, 1], [2, 1, 1, 0, 3, 1, 2, 0, 3, 0, 0, 1]);
+    line(&[may_run(&plan), may_run(&early), may_run(&too_early)])
+        + &line(&[may_run(&plan[..10]), with(&[2, 0]), with(&[9, 0]), with(&[2]), may_run(&[])])
+}
+
 pub fn lines() -> String {
     let four = |layers| Shape { nodes: 4, data: 1, layers };
     let losses = [two_lost(TINY, &[2]), two_lost(four(1), &[2, 3]), two_lost(four(3), &[2, 3])];
@@ -109,6 +125,7 @@ pub fn lines() -> String {
         no_transcript(),
         line(&losses),
         chosen_layers(),
+        orders(),
     ]
     .concat()
 }

@@ -1,0 +1,222 @@
+//! The first rule that a list of transfers breaks, beside a walk over the list: every order of a small plan, and random
+//! lists for plans of every size.
+use std::collections::BTreeMap;
+use std::fs;
+
+use hmsr::{Repair, Shape};
+
+use crate::json::Json;
+use crate::place::{generator, Place, REPAIRABLE};
+use program::rules::{first_broken, Broken, Rule, Transfer};
+
+/// The program's own module of the rules.
+#[path = "../../src/cli"]
+mod program {
+    pub mod rules;
+}
+
+/// A repair, and a list for it.
+struct Case {
+    nodes: usize,
+    dead: Vec<usize>,
+    helpers: Vec<usize>,
+    list: Vec<Transfer>,
+}
+
+/// "Helpers' messages come first, by receiver then sender; then exchanges likewise."
+fn plan(dead: &[usize], helpers: &[usize]) -> Vec<Transfer> {
+    let from = |senders: &[usize]| -> Vec<Transfer> {
+        let pairs = dead.iter().flat_map(|&receiver| senders.iter().map(move |&sender| [sender, receiver]));
+        pairs.filter(|[sender, receiver]| sender != receiver).collect()
+    };
+    [from(helpers), from(dead)].concat()
+}
+
+/// What breaks a rule first, by a walk that keeps the transfers it has met, with their places.
+fn walked(case: &Case) -> Option<Broken> {
+    let Case { dead, helpers, list, .. } = case;
+    let mut met = BTreeMap::new();
+    for (place, &[sender, receiver]) in list.iter().enumerate() {
+        let sends = helpers.contains(&sender) || dead.contains(&sender);
+        if !sends || !dead.contains(&receiver) || sender == receiver {
+            return Some(Broken::At(place, Rule::NotInPlan));
+        }
+        if let Some(&earlier) = met.get(&[sender, receiver]) {
+            return Some(Broken::At(place, Rule::Twice(earlier)));
+        }
+        let waits_for = |helper: &usize| dead.contains(&sender) && !met.contains_key(&[*helper, sender]);
+        let waits_for: Vec<usize> = helpers.iter().copied().filter(waits_for).collect();
+        if !waits_for.is_empty() {
+            return Some(Broken::At(place, Rule::Waits(waits_for)));
+        }
+        met.insert([sender, receiver], place);
+    }
+    let missing: Vec<Transfer> = plan(dead, helpers).into_iter().filter(|pair| !met.contains_key(pair)).collect();
+    if missing.is_empty() {
+        None
+    } else {
+        Some(Broken::Missing(missing))
+    }
+}
+
+/// What the program finds.
+fn found(case: &Case) -> Option<Broken> {
+    let Case { nodes, dead, helpers, list } = case;
+    let shape = Shape::for_losses(*nodes, helpers.len() - 1, &[dead.len()]).unwrap();
+    let repair = Repair { shape, dead, helpers };
+    match repair.may_run(list.as_flattened()) {
+        Ok(()) => None,
+        Err(refusal) => {
+            assert_eq!(refusal.number(), 13);
+            Some(first_broken(repair, &plan(dead, helpers), list))
+        }
+    }
+}
+
+/// The number of a kind of answer, to count them by.
+fn kind(broken: &Option<Broken>) -> usize {
+    match broken {
+        None => 0,
+        Some(Broken::At(_, Rule::NotInPlan)) => 1,
+        Some(Broken::At(_, Rule::Twice(_))) => 2,
+        Some(Broken::At(_, Rule::Waits(_))) => 3,
+        Some(Broken::Missing(_)) => 4,
+    }
+}
+
+/// Every order of some transfers.
+fn orders(transfers: &[Transfer]) -> Vec<Vec<Transfer>> {
+    if transfers.is_empty() {
+        return vec![Vec::new()];
+    }
+    let with_first = |place: usize| {
+        let others = [&transfers[..place], &transfers[place + 1..]].concat();
+        orders(&others).into_iter().map(move |order| [vec![transfers[place]], order].concat())
+    };
+    (0..transfers.len()).flat_map(with_first).collect()
+}
+
+/// n = 4, k = 1, h = 2, as document 01's plan has them.
+fn every_order() -> Vec<Case> {
+    let (dead, helpers) = (vec![0, 1], vec![2, 3]);
+    let orders = orders(&plan(&dead, &helpers));
+    orders.into_iter().map(|list| Case { nodes: 4, dead: dead.clone(), helpers: helpers.clone(), list }).collect()
+}
+
+/// A number below a bound.
+fn below(next: &mut impl FnMut() -> u32, bound: usize) -> usize {
+    (next() >> 8) as usize % bound
+}
+
+fn shuffle<T>(next: &mut impl FnMut() -> u32, items: &mut [T]) {
+    for last in (1..items.len()).rev() {
+        items.swap(last, below(next, last + 1));
+    }
+}
+
+/// A repair of any size, and an order in which its transfers may run: each exchange somewhere behind what it waits for.
+fn random_case(next: &mut impl FnMut() -> u32) -> Case {
+    let nodes = 3 + below(next, 12);
+    let data = 1 + below(next, nodes - 2);
+    let loss = 1 + below(next, nodes - data - 1);
+    let mut all: Vec<usize> = (0..nodes).collect();
+    shuffle(next, &mut all);
+    let [mut dead, mut helpers] = [&all[..loss], &all[loss..loss + data + 1]].map(<[usize]>::to_vec);
+    dead.sort_unstable();
+    helpers.sort_unstable();
+    let mut list = plan(&dead, &helpers);
+    let mut exchanges = list.split_off(loss * (data + 1));
+    shuffle(next, &mut list);
+    shuffle(next, &mut exchanges);
+    for [sender, receiver] in exchanges {
+        let heard = list.iter().rposition(|&[from, to]| helpers.contains(&from) && to == sender).unwrap();
+        list.insert(heard + 1 + below(next, list.len() - heard), [sender, receiver]);
+    }
+    Case { nodes, dead, helpers, list }
+}
+
+/// Takes a transfer away, or puts another in, or moves one.
+fn damage(next: &mut impl FnMut() -> u32, case: &mut Case) {
+    let (one, other) = (below(next, case.list.len()), below(next, case.list.len()));
+    let node = below(next, case.nodes + 2);
+    match below(next, 7) {
+        0 => drop(case.list.remove(one)),
+        1 => case.list.insert(other, case.list[one]),
+        2 => case.list.swap(one, other),
+        3 => case.list[one].reverse(),
+        4 => case.list[one][below(next, 2)] = node,
+        5 => case.list[one][below(next, 2)] += 1 << 32,
+        _ => case.list.truncate(one + 1),
+    }
+}
+
+/// Lists with none to two damages.
+fn damaged(count: usize, seed: u32) -> Vec<Case> {
+    let mut next = generator(seed);
+    let one = |_| {
+        let mut case = random_case(&mut next);
+        (0..below(&mut next, 3)).for_each(|_| damage(&mut next, &mut case));
+        case
+    };
+    (0..count).map(one).collect()
+}
+
+#[test]
+fn every_order_of_a_small_plan_is_judged_as_a_walk_does() {
+    let cases = every_order();
+    assert_eq!(cases.len(), 720);
+    let mut kinds = [0; 5];
+    for case in &cases {
+        let broken = found(case);
+        assert_eq!(broken, walked(case), "{:?}", case.list);
+        kinds[kind(&broken)] += 1;
+    }
+    // Each of the two exchanges is the last of three transfers in one order of three: both are in 80 of 720.
+    assert_eq!(kinds, [80, 0, 0, 640, 0]);
+}
+
+#[test]
+fn random_lists_are_judged_as_a_walk_does() {
+    let mut kinds = [0; 5];
+    for case in damaged(5000, 1) {
+        let broken = found(&case);
+        assert_eq!(broken, walked(&case), "{:?} {:?} {:?}", case.dead, case.helpers, case.list);
+        kinds[kind(&broken)] += 1;
+    }
+    assert!(kinds.iter().all(|&count| count > 300), "{kinds:?}");
+}
+
+/// The line, the transfer and the rule that `--json` is to name.
+fn named(case: &Case, broken: &Broken) -> [Json; 4] {
+    let (line, [sender, receiver], rule) = match broken {
+        Broken::At(place, Rule::NotInPlan) => (Some(*place), case.list[*place], "not in the plan"),
+        Broken::At(place, Rule::Twice(_)) => (Some(*place), case.list[*place], "twice"),
+        Broken::At(place, Rule::Waits(_)) => (Some(*place), case.list[*place], "waits"),
+        Broken::Missing(missing) => (None, missing[0], "missing"),
+    };
+    let line = line.map_or(Json::Null, |place| Json::Number(place as u64 + 1));
+    let [sender, receiver] = [sender, receiver].map(|node| Json::Number(node as u64));
+    [line, sender, receiver, Json::Text(rule.to_string())]
+}
+
+#[test]
+fn the_command_names_what_a_walk_finds() {
+    let place = Place::new("rules_command");
+    for case in every_order().into_iter().step_by(5).chain(damaged(300, 2)) {
+        let lines: String = case.list.iter().map(|[sender, receiver]| format!("{sender} {receiver}\n")).collect();
+        fs::write(place.path("list"), lines).unwrap();
+        let [dead, helpers] =
+            [&case.dead, &case.helpers].map(|nodes| nodes.iter().map(usize::to_string).collect::<Vec<_>>().join(","));
+        let line = format!("order --nodes {} --dead {dead} --helpers {helpers} list --json", case.nodes);
+        let output = place.run(&line);
+        let json = Json::read(&String::from_utf8(output.stdout).unwrap());
+        let Some(broken) = walked(&case) else {
+            assert_eq!((output.status.code(), json.get("may_run")), (Some(0), &Json::Truth(true)), "{line}");
+            assert_eq!(json.get("transfers").number(), case.list.len() as u64, "{line}");
+            continue;
+        };
+        assert_eq!((output.status.code(), json.get("may_run")), (Some(REPAIRABLE), &Json::Truth(false)), "{line}");
+        let members = ["line", "from", "to", "rule"].map(|name| json.get(name));
+        assert_eq!(members, named(&case, &broken).each_ref(), "{line}");
+    }
+}
