@@ -1,9 +1,9 @@
 -- How many transfers stand in a list: as many as in the plan where it may run; and where as many stand in it, each in the plan and none
 -- twice, every transfer of the plan does.
 use mathlib.Core.Path.{_≡_, refl, sym, ap, ap₂, _∙_}
-use mathlib.Core.Bool.{Bool, true, _&&_, cond}
+use mathlib.Core.Bool.{true, _&&_, cond}
 use mathlib.Core.List.{List, [], _∷_}
-use Prim.Native.Nat.{ℕ, _+_, _≤_, _<_}
+use Prim.Native.Nat.{ℕ, _+_, _<_}
 use native.Mathlib.Decide.{ℕ-discrete}
 use native.Mathlib.Omega.{arith}
 use borrow.Author.Tests.{eq-eqb, ne-eqb}
@@ -11,14 +11,13 @@ use lib.Dec.{eqb}
 use lib.ListN.{length}
 use Rattle.lists.specs.Sums.{sum}
 use Rattle.lists.proofs.Sums.{sum-ext, sum-first, sum-const, sum-swap, sum-ones}
-use Rattle.lists.proofs.Tests.{true-or-false}
 use Rattle.shape.specs.declared.Shape.{Shape}
 use Rattle.shape.proofs.Accepted.{Repairable}
 use Rattle.transfers.specs.declared.Transfer.{Transfer}
-use Rattle.transfers.specs.Plan.{transfers, noTransfer}
+use Rattle.transfers.specs.Plan.{transfers}
 use Rattle.ordering.specs.Ordering.{at, same, times, MayRun}
 use Rattle.ordering.specs.Following.{inPlan}
-use Rattle.ordering.proofs.Times.{same-true, same-refl, place-times, once-times, once-of}
+use Rattle.ordering.proofs.Times.{place-times, once-times, once-of}
 use Rattle.ordering.proofs.InPlan.{plan-once, place-in, in-place}
 
 -- ---- counted by the one list, and by the other

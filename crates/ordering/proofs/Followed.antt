@@ -6,7 +6,7 @@ use mathlib.Core.Bool.{Bool, true, false, not, _&&_, _||_, cond, true≢false}
 use mathlib.Core.List.{List, []}
 use Prim.Native.Nat.{ℕ, _+_, _*_, _≤_, _<_}
 use native.Mathlib.Omega.{arith}
-use borrow.Author.Tests.{eq-eqb, ne-eqb, not-true, not-false}
+use borrow.Author.Tests.{eq-eqb, ne-eqb, not-true}
 use lib.Dec.{eqb}
 use lib.ListN.{length, getD, take, set, replicate, length-set, length-replicate, getD-replicate}
 use lib.Seq.{getD-set-same, getD-set-other}
@@ -18,7 +18,7 @@ use Rattle.shape.specs.Shape.{mostNodes}
 use Rattle.shape.proofs.Accepted.{Repairable}
 use Rattle.transfers.specs.declared.Transfer.{Transfer}
 use Rattle.transfers.specs.Plan.{transfers}
-use Rattle.ordering.specs.Ordering.{between, at, same, times, stands, sentBefore, readyAt, mayRun, Place, MayRun}
+use Rattle.ordering.specs.Ordering.{between, at, same, times, stands, sentBefore, readyAt, mayRun, MayRun}
 use Rattle.ordering.specs.Following.{inPlan, byList, byTable, sentTo, mayFollow, Sent, Nodes}
 use Rattle.ordering.proofs.Times.{same-true, same-refl, stands-place, place-stands, front-place, place-front, behind-ready, tests-passed, says, times-none, times-next}
 use Rattle.ordering.proofs.InPlan.{place-in, planned-by-lists}

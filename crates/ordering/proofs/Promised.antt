@@ -4,10 +4,7 @@ use mathlib.Core.Bool.{Bool, true, false, not}
 use mathlib.Core.List.{List}
 use Prim.Native.Nat.{ℕ, _+_, _*_, _/_, _<_}
 use native.Mathlib.Omega.{arith}
-use borrow.Author.Tests.{not-false}
 use lib.ListN.{length, getD}
-use Rattle.lists.specs.Lists.{piece}
-use Rattle.lists.proofs.Tests.{true-or-false}
 use Rattle.lists.proofs.Tables.{tabulate-length, tabulate-at}
 use Rattle.shape.specs.declared.Shape.{Shape}
 use Rattle.shape.specs.declared.Answer.{Answer}
@@ -18,11 +15,9 @@ use Rattle.shape.specs.Refusals.{answerNumber, refuse, repairBad}
 use Rattle.shape.proofs.Accepted.{passed, repair-accepted}
 use Rattle.shape.proofs.Answers.{number-only, afterwards-done}
 use Rattle.code.specs.Code.{Code, GoodCode, narrow}
-use Rattle.code.specs.Archive.{Codeword}
 use Rattle.code.proofs.Accepted.{narrow-accepted}
-use Rattle.classes.specs.Classes.{node}
 use Rattle.classes.specs.Whole.{wire, repaired, WholeRepair}
-use Rattle.judging.specs.Refusals.{listsRefusal, wholeRefusal}
+use Rattle.judging.specs.Refusals.{listsRefusal}
 use Rattle.judging.proofs.Judged.{Listed, listed-passed}
 use Rattle.repair.specs.Promises.{Repaired}
 use Rattle.repair.proofs.Whole.{whole-repair}

@@ -21,7 +21,8 @@ const TABLE: usize = MOST_NODES * MOST_NODES;
 fn planned(dead: &[usize], helpers: &[usize], sender: usize, receiver: usize) -> bool
     ensures { λ r. ⌜ r ≡ inPlan (now (dead .entry)) (now (helpers .entry)) (between sender receiver) ⌝ }
 {
-    listed(dead, receiver) & (listed(helpers, sender) | (listed(dead, sender) & (sender != receiver)))
+    listed(dead, receiver)
+        & (listed(helpers, sender) | (listed(dead, sender) & (sender != receiver)))
 }
 
 // Whether every helper has sent to a node.

@@ -11,8 +11,6 @@ use Rattle.shape.specs.Shape.{mostNodes}
 use Rattle.ordering.specs.Following.{byTable, sentTo}
 use Rattle.ordering.proofs.all_sent.Statement.{statement}
 use Rattle.ordering.proofs.all_sent.Tie as tie
-use Rattle.ordering.proofs.all_sent.Reads as reads
-use Rattle.ordering.proofs.all_sent.Lts as lts
 
 abbrev Inv-loop : tie.InvT-loop
 Inv-loop helpers sent node j₀ j = (j ≤ length helpers) × (all (sentTo (byTable sent) node) helpers ≡ all (sentTo (byTable sent) node) (drop j helpers))

@@ -1,12 +1,10 @@
 -- `ordering::may_run` meets its contract: causes 1 to 3, the odd count, then the list itself; the number gives the promise. Assumes nothing.
 use mathlib.Core.Path.{_≡_, sym, ap, _∙_}
-use mathlib.Core.Bool.{Bool, not}
-use Prim.Native.Nat.{ℕ}
+use mathlib.Core.Bool.{not}
 use borrow.Author.Needs.{needs}
-use borrow.Author.Tests.{not-true, not-false}
 use Rattle.shape.specs.Refusals.{refuse}
 use Rattle.judging.proofs.Judged.{judged-stop, judged-listed, judged-then, judged-length, refuse-false}
-use Rattle.ordering.specs.Ordering.{pairs, mayRun, oddCount, pairsRefusal, orderRefusal}
+use Rattle.ordering.specs.Ordering.{oddCount, pairsRefusal, orderRefusal}
 use Rattle.ordering.proofs.Promised.{orders}
 use Rattle.ordering.proofs.may_run.Statement.{statement}
 use Rattle.ordering.proofs.may_run.Tie as tie

@@ -1,9 +1,8 @@
 -- `ordering::runs` meets its contract: each transfer so far may follow those before it, and the table has what they have sent. Assumes nothing.
-use mathlib.Core.Path.{_≡_, refl, sym, ap, subst, _∙_}
+use mathlib.Core.Path.{_≡_, sym, ap, subst, _∙_}
 use mathlib.Core.Bool.{true}
 use Prim.Native.Nat.{ℕ, _+_, _*_, _/_, _-_, _≤_, _<_}
 use native.Mathlib.Omega.{arith}
-use borrow.Author.Needs.{needs}
 use borrow.Author.Tests.{not-true, not-false}
 use lib.ListN.{length, getD, take, set}
 use Rattle.shape.specs.Shape.{mostNodes}
@@ -12,7 +11,7 @@ use Rattle.transfers.specs.Plan.{transfers, mostTransfers}
 use Rattle.transfers.proofs.Transfers.{transfers-count}
 use Rattle.transfers.proofs.Room.{senders-high, count-high}
 use Rattle.ordering.specs.Ordering.{between, pairs, at}
-use Rattle.ordering.specs.Following.{byList, byTable, mayFollow, Sent, Nodes}
+use Rattle.ordering.specs.Following.{byList, mayFollow, Sent, Nodes}
 use Rattle.ordering.proofs.Followed.{nodes-low, planned-low, follow-planned, follow-yes, follow-no, length-no, each-more, sent-none, sent-more, table-follow}
 use Rattle.ordering.proofs.Promised.{pairs-length, pairs-at}
 use Rattle.ordering.proofs.runs.Statement.{statement}
@@ -154,7 +153,7 @@ loop-again c =
     let list = pairs (i .before .before .before .before .before .before .args .numbers .now) in (
       omega (arith, i .loop-test .taken),
       subst (λ t. Sent (take (l .x + 1) list) (set (l .sent) (t .sender * mostNodes + t .receiver) true)) (read i)
-      (sent-more list (l .x) (within i) (l .sent) (l .inv .1) (small c .0) (small c .1)),
+          (sent-more list (l .x) (within i) (l .sent) (l .inv .1) (small c .0) (small c .1)),
       each-more _ (l .x) (l .inv .2) (follows c),
     )
 
