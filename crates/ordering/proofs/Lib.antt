@@ -5,3 +5,4 @@ pub mod Counted
 pub mod Followed
 pub mod Running
 pub mod Promised
+pub mod Called

@@ -144,7 +144,7 @@ module _ (c : Code) (s : Shape) (dead helpers nodes : List ℕ) (R : Repairable 
   node-dead u h = member-of dead u h
 
   module _ (u : ℕ) (h : u < length dead) where
-    helpers-end : helpersHeard helpers end (node dead u) ≡ fromHelpers c s dead helpers nodes u
+    pub helpers-end : helpersHeard helpers end (node dead u) ≡ fromHelpers c s dead helpers nodes u
     helpers-end =
         all-heard end (node dead u) (λ j l. all-delivered (between (getD helpers j 0) (node dead u)) (message-in s dead helpers R u j h l))
         ∙ ap (fromHelpers c s dead helpers nodes) (rank-node u h)
@@ -156,7 +156,7 @@ module _ (c : Code) (s : Shape) (dead helpers nodes : List ℕ) (R : Repairable 
         ∙ cond-false _ _ (member (node dead v) helpers) (dead-no-helper s dead helpers R (node dead v) (node-dead v l))
         ∙ ap (λ w. exchange c s dead helpers w (fromHelpers c s dead helpers nodes w) (node dead u)) (rank-node v l)
 
-    fellows-end : fellowsHeard dead end u ≡ fromDead c s dead helpers nodes u
+    pub fellows-end : fellowsHeard dead end u ≡ fromDead c s dead helpers nodes u
     unfolding fellowsHeard fellowHeard fromDead fromSender
     fellows-end = flat-ext (length dead - 1) _ _ (λ j l. let o = other-is (length dead) u j h l in exchange-end (otherRank u j) (o .0) (o .1))
 
