@@ -1,17 +1,16 @@
 -- A list that may run, run by the calls of single nodes in its order, on an archive whose whole repair is accepted: no call turns back, and each
 -- gives what running the list has.
 use mathlib.Core.Path.{_≡_, refl, sym, ap, ap₂, subst, _∙_}
-use mathlib.Core.Logic.{_≢_}
-use mathlib.Core.Bool.{true, false, not, _&&_, _||_}
+use mathlib.Core.Logic.{_≢_, _⊎_, inl, inr}
+use mathlib.Core.Bool.{true, false, true≢false}
 use mathlib.Core.List.{List, [], append-nil}
 use Prim.Native.Nat.{ℕ, _+_, _*_, _-_, _<_}
 use native.Mathlib.Nat.{mod-lt}
 use native.Mathlib.Omega.{arith}
-use borrow.Author.Tests.{eq-eqb, eqb-false, not-true}
-use lib.Dec.{eqb}
+use borrow.Author.Tests.{eq-eqb}
 use lib.ListN.{length, getD, take, length-map}
 use Rattle.lists.specs.Lists.{all, below, member, position, outside, piece}
-use Rattle.lists.proofs.Tests.{both, cond-true, cond-false, at-all-below}
+use Rattle.lists.proofs.Tests.{cond-true, cond-false, at-all-below}
 use Rattle.lists.proofs.Tables.{map-at}
 use Rattle.lists.proofs.Members.{member-of, at-position, rising-below}
 use Rattle.lists.proofs.Flats.{flat-length, flat-piece, piece-length}
@@ -26,6 +25,7 @@ use Rattle.shape.proofs.Answers.{number-only, afterwards-done}
 use Rattle.rows.specs.Rows.{Low}
 use Rattle.rows.proofs.Rows.{low-each, low-flat}
 use Rattle.code.specs.Code.{narrow}
+use Rattle.transfers.specs.declared.Transfer.{Transfer}
 use Rattle.classes.specs.Classes.{node, spots, noSpot, messageSize}
 use Rattle.classes.specs.Steps.{added, helperMessage, ownPair, ownPairs, exchange, exchangeTo, exchanges, otherRank, place, contents}
 use Rattle.classes.specs.Whole.{fromHelper, fromHelpers, fromSender, fromDead}
@@ -41,7 +41,7 @@ use Rattle.repair.proofs.Below.{pairs-low, exchange-low}
 use Rattle.ordering.specs.Ordering.{pairs, at, orderRefusal}
 use Rattle.ordering.specs.Following.{inPlan}
 use Rattle.ordering.specs.Running.{Delivery, helpersHeard, fellowsHeard, sends, run, rebuilt}
-use Rattle.ordering.proofs.InPlan.{dead-no-helper, place-in}
+use Rattle.ordering.proofs.InPlan.{in-plan, dead-no-helper, runs-in}
 use Rattle.ordering.proofs.Running.{sender-holds, helpers-end, fellows-end}
 use Rattle.ordering.proofs.Promised.{Orderly, order-accepted}
 
@@ -67,11 +67,10 @@ module _ (s : Shape) (dead helpers numbers nodes : List ℕ) (room : ℕ) (z : o
   log x = run narrow s dead helpers nodes [] (take x (pairs numbers))
 
   planned : (x : ℕ) → x < length (pairs numbers) → inPlan dead helpers (at (pairs numbers) x) ≡ true
-  planned x h = let p = O .may .planned x h in sym (ap (inPlan dead helpers) (p .is)) ∙ place-in s dead helpers R (p .place) (p .below)
+  planned = runs-in s dead helpers R (pairs numbers) (O .may)
 
   receiver-dead : (x : ℕ) → x < length (pairs numbers) → member (at (pairs numbers) x .receiver) dead ≡ true
-  unfolding inPlan
-  receiver-dead x h = both (member (at (pairs numbers) x .receiver) dead) _ (planned x h) .0
+  receiver-dead x h = in-plan dead helpers (at (pairs numbers) x) (planned x h) .0
 
   -- ---- a helper
 
@@ -154,13 +153,14 @@ module _ (s : Shape) (dead helpers numbers nodes : List ℕ) (room : ℕ) (z : o
   -- the receiver is another
   receiver-other : (x : ℕ) → x < length (pairs numbers) → member (at (pairs numbers) x .sender) dead ≡ true
       → position (at (pairs numbers) x .receiver) dead ≢ position (at (pairs numbers) x .sender) dead
-  unfolding inPlan
-  receiver-other x h d e =
-      let t = at (pairs numbers) x in
-      let among = both (member (t .receiver) dead) _ (planned x h) .1 in
-      let fellow = ap (λ b. b || (member (t .sender) dead && not (eqb (t .sender) (t .receiver)))) (sym (dead-no-helper s dead helpers R (t .sender) d)) ∙ among in
-      eqb-false (t .sender) (t .receiver) (not-true _ (both (member (t .sender) dead) _ fellow .1))
-      (sym (at-position dead (t .sender) d .1) ∙ ap (λ u. getD dead u 0) (sym e) ∙ at-position dead (t .receiver) (receiver-dead x h) .1)
+  receiver-other x h d e = go (in-plan dead helpers (at (pairs numbers) x) (planned x h) .1)
+    where
+      t : Transfer
+      t = at (pairs numbers) x
+
+      go : (member (t .sender) helpers ≡ true) ⊎ ((member (t .sender) dead ≡ true) × (t .sender ≢ t .receiver)) → ⊥
+      go (inl m) = true≢false (sym m ∙ dead-no-helper s dead helpers R (t .sender) d)
+      go (inr v) = v .1 (sym (at-position dead (t .sender) d .1) ∙ ap (λ u. getD dead u 0) (sym e) ∙ at-position dead (t .receiver) (receiver-dead x h) .1)
 
   -- a dead node that is called at its turn, with what the helpers have sent to it by then
   pub first-called : (x : ℕ) → x < length (pairs numbers) → member (at (pairs numbers) x .sender) dead ≡ true

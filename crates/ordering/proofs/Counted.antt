@@ -18,7 +18,7 @@ use Rattle.transfers.specs.Plan.{transfers}
 use Rattle.ordering.specs.Ordering.{at, same, times, MayRun}
 use Rattle.ordering.specs.Following.{inPlan}
 use Rattle.ordering.proofs.Times.{place-times, once-times, once-of}
-use Rattle.ordering.proofs.InPlan.{plan-once, place-in, in-place}
+use Rattle.ordering.proofs.InPlan.{plan-once, in-place, runs-in}
 
 -- ---- counted by the one list, and by the other
 
@@ -82,5 +82,5 @@ module _ (s : Shape) (dead helpers : List ℕ) (R : Repairable s dead helpers) (
   -- "every transfer of the plan stands there once, nothing else does"
   pub yes-length : MayRun dead helpers list → length list ≡ length (transfers dead helpers)
   yes-length m =
-      sym (in-all (λ x h. let w = m .planned x h in sym (ap (inPlan dead helpers) (w .is)) ∙ place-in s dead helpers R (w .place) (w .below)))
+      sym (in-all (runs-in s dead helpers R list m))
       ∙ sum-ext (length plan) _ (λ e. 1) (once-of dead helpers list m) ∙ sum-const (length plan) 1 ∙ omega arith

@@ -21,7 +21,7 @@ use Rattle.transfers.specs.Plan.{transfers}
 use Rattle.ordering.specs.Ordering.{between, at, same, times, stands, sentBefore, readyAt, mayRun, MayRun}
 use Rattle.ordering.specs.Following.{inPlan, byList, byTable, sentTo, mayFollow, Sent, Nodes}
 use Rattle.ordering.proofs.Times.{same-true, same-refl, stands-place, place-stands, front-place, place-front, behind-ready, tests-passed, says, times-none, times-next}
-use Rattle.ordering.proofs.InPlan.{place-in, planned-by-lists}
+use Rattle.ordering.proofs.InPlan.{in-plan, runs-in, planned-by-lists}
 use Rattle.ordering.proofs.Counted.{all-stand, yes-length}
 
 -- what holds below x, and at x, holds below x + 1
@@ -83,11 +83,8 @@ module _ (s : Shape) (dead helpers : List ℕ) (R : Repairable s dead helpers) (
 
   -- and each transfer of it may follow
   runs-follow : MayRun dead helpers list → (x : ℕ) → x < length list → follows x ≡ true
-  runs-follow m x h = parts x ∙ ap₂ _&&_ (ap₂ _&&_ planned (ap not (fresh (true-or-false (stands (at list x) (take x list)))))) ready
+  runs-follow m x h = parts x ∙ ap₂ _&&_ (ap₂ _&&_ (runs-in s dead helpers R list m x h) (ap not (fresh (true-or-false (stands (at list x) (take x list)))))) ready
     where
-      planned : inPlan dead helpers (at list x) ≡ true
-      planned = let w = m .planned x h in sym (ap (inPlan dead helpers) (w .is)) ∙ place-in s dead helpers R (w .place) (w .below)
-
       ready : readyAt dead helpers list x ≡ true
       ready = behind-ready dead helpers list x h (λ d j l. m .behind x j h d l)
 
@@ -165,15 +162,11 @@ member-low list low i m = let p = at-position list i m in omega (arith, low (pos
 module _ (dead helpers : List ℕ) (low-dead : Nodes dead) (low-helpers : Nodes helpers) where
   -- the nodes of a planned transfer
   pub planned-low : (t : Transfer) → inPlan dead helpers t ≡ true → (t .sender < mostNodes) × (t .receiver < mostNodes)
-  unfolding inPlan
-  planned-low t e = go (both (member (t .receiver) dead) _ e) (true-or-false (member (t .sender) helpers))
+  planned-low t e = let w = in-plan dead helpers t e in (go (w .1), member-low dead low-dead _ (w .0))
     where
-      go : (member (t .receiver) dead ≡ true) × ((member (t .sender) helpers || (member (t .sender) dead && not (eqb (t .sender) (t .receiver)))) ≡ true)
-          → (member (t .sender) helpers ≡ true) ⊎ (member (t .sender) helpers ≡ false) → (t .sender < mostNodes) × (t .receiver < mostNodes)
-      go w (inl m) = (member-low helpers low-helpers _ m, member-low dead low-dead _ (w .0))
-      go w (inr m) =
-          let v = ap (λ b. b || (member (t .sender) dead && not (eqb (t .sender) (t .receiver)))) (sym m) ∙ w .1 in
-          (member-low dead low-dead _ (both (member (t .sender) dead) _ v .0), member-low dead low-dead _ (w .0))
+      go : (member (t .sender) helpers ≡ true) ⊎ ((member (t .sender) dead ≡ true) × (t .sender ≢ t .receiver)) → t .sender < mostNodes
+      go (inl m) = member-low helpers low-helpers _ m
+      go (inr v) = member-low dead low-dead _ (v .0)
 
   pub table-follow : (list : List Transfer) (table : List Bool) (t : Transfer) → Sent list table
       → mayFollow dead helpers (byTable table) t ≡ mayFollow dead helpers (byList list) t

@@ -21,9 +21,23 @@ use Rattle.classes.proofs.Placing.{place-below, other-place, other-is}
 use Rattle.transfers.specs.declared.Transfer.{Transfer}
 use Rattle.transfers.specs.Plan.{helperTransfer, deadTransfer, transfers, noTransfer}
 use Rattle.transfers.proofs.Transfers.{transfers-length, helper-to, dead-to, transfer-first, transfer-second}
-use Rattle.ordering.specs.Ordering.{between, at, stands, mayRun, Place}
+use Rattle.ordering.specs.Ordering.{between, at, stands, mayRun, Place, MayRun}
 use Rattle.ordering.specs.Following.{inPlan}
 use Rattle.ordering.proofs.Times.{stands-place, place-stands, said}
+
+-- what the lists say of a transfer that is in the plan: a helper's message to a dead node, or a dead node's to another
+pub in-plan : (dead helpers : List ℕ) (t : Transfer) → inPlan dead helpers t ≡ true
+    → (member (t .receiver) dead ≡ true) × ((member (t .sender) helpers ≡ true) ⊎ ((member (t .sender) dead ≡ true) × (t .sender ≢ t .receiver)))
+unfolding inPlan
+in-plan dead helpers t e = let w = both (member (t .receiver) dead) _ e in (w .0, go (true-or-false (member (t .sender) helpers)) (w .1))
+  where
+    fellow : Bool
+    fellow = member (t .sender) dead && not (eqb (t .sender) (t .receiver))
+
+    go : (member (t .sender) helpers ≡ true) ⊎ (member (t .sender) helpers ≡ false) → (member (t .sender) helpers || fellow) ≡ true
+        → (member (t .sender) helpers ≡ true) ⊎ ((member (t .sender) dead ≡ true) × (t .sender ≢ t .receiver))
+    go (inl m) f = inl m
+    go (inr m) f = let v = both (member (t .sender) dead) _ (ap (λ b. b || fellow) (sym m) ∙ f) in inr (v .0, eqb-false _ _ (not-true _ (v .1)))
 
 module _ (s : Shape) (dead helpers : List ℕ) (R : Repairable s dead helpers) where
   abbrev h : ℕ
@@ -122,6 +136,10 @@ module _ (s : Shape) (dead helpers : List ℕ) (R : Repairable s dead helpers) w
       go (message u j a b p q) = ap (inPlan dead helpers) q ∙ message-in u j a b
       go (exchanged u j a b p q) = ap (inPlan dead helpers) q ∙ exchange-in u (otherRank u j) a (other-is h u j a b .0) (other-is h u j a b .1)
 
+  -- what stands in a list that may run
+  pub runs-in : (list : List Transfer) → MayRun dead helpers list → (x : ℕ) → x < length list → inPlan dead helpers (at list x) ≡ true
+  runs-in list m x h = let w = m .planned x h in sym (ap (inPlan dead helpers) (w .is)) ∙ place-in (w .place) (w .below)
+
   message-place : (u j : ℕ) → u < h → j < K → Place plan (between (getD helpers j 0) (node dead u)) (h * K)
   unfolding at helperTransfer
   message-place u j l m = record { place = u * K + j; below = digits-lt l m; is = helper-to dead helpers u j noTransfer l m }
@@ -150,19 +168,16 @@ module _ (s : Shape) (dead helpers : List ℕ) (R : Repairable s dead helpers) w
   rank-of i m = let p = at-position dead i m in record { rank = position i dead; low = p .0; is = p .1 }
 
   pub in-place : (t : Transfer) → inPlan dead helpers t ≡ true → Place (transfers dead helpers) t (length (transfers dead helpers))
-  in-place t e =
-      let w = both (member (t .receiver) dead) _ (sym (parts t) ∙ e) in
-      go (rank-of (t .receiver) (w .0)) (member (t .sender) helpers) refl (w .1)
+  in-place t e = let w = in-plan dead helpers t e in go (rank-of (t .receiver) (w .0)) (w .1)
     where
-      go : Rank (t .receiver) → (b : Bool) → member (t .sender) helpers ≡ b → (b || (member (t .sender) dead && not (eqb (t .sender) (t .receiver)))) ≡ true → Place plan t (length plan)
-      go r true m f =
+      go : Rank (t .receiver) → (member (t .sender) helpers ≡ true) ⊎ ((member (t .sender) dead ≡ true) × (t .sender ≢ t .receiver)) → Place plan t (length plan)
+      go r (inl m) =
           let q = at-position helpers (t .sender) m in
           subst (λ z. Place plan z (length plan)) (ap₂ between (q .1) (r .is)) (widen _ (message-place (r .rank) (position (t .sender) helpers) (r .low) (q .0)))
-      go r false m f =
-          let v = both (member (t .sender) dead) _ f in
+      go r (inr v) =
           let p = rank-of (t .sender) (v .0) in
           subst (λ z. Place plan z (length plan)) (ap₂ between (p .is) (r .is))
-          (exchange-place (r .rank) (p .rank) (r .low) (p .low) (λ z. eqb-false _ _ (not-true _ (v .1)) (sym (p .is) ∙ ap (node dead) z ∙ r .is)))
+          (exchange-place (r .rank) (p .rank) (r .low) (p .low) (λ z. v .1 (sym (p .is) ∙ ap (node dead) z ∙ r .is)))
 
   -- for a program: the plan need not be searched
   pub planned-by-lists : (t : Transfer) → stands t (transfers dead helpers) ≡ inPlan dead helpers t

@@ -1,11 +1,10 @@
 -- A list that may run leaves the nodes as the whole repair does, for any nodes.
 use mathlib.Core.Path.{_≡_, refl, sym, ap, ap₂, subst, _∙_}
-use mathlib.Core.Logic.{_≢_}
-use mathlib.Core.Bool.{Bool, true, false, not, _&&_, _||_, cond, true≢false, false≢true}
+use mathlib.Core.Logic.{_≢_, _⊎_, inl, inr}
+use mathlib.Core.Bool.{Bool, true, false, cond, true≢false}
 use mathlib.Core.List.{List, [], _∷_, _++_}
 use Prim.Native.Nat.{ℕ, zero, suc, _*_, _-_, _/_, _%_, _≤_, _<_}
 use native.Mathlib.Omega.{arith}
-use lib.Dec.{eqb}
 use lib.ListN.{length, getD, take}
 use lib.Seq.{take-suc, take-length}
 use Rattle.lists.specs.Lists.{member, position, piece}
@@ -27,7 +26,7 @@ use Rattle.ordering.specs.Ordering.{between, same, at, MayRun}
 use Rattle.ordering.specs.Following.{inPlan}
 use Rattle.ordering.specs.Running.{Delivery, heard, helperHeard, helpersHeard, fellowHeard, fellowsHeard, sends, delivered, run, rebuilt, ranSymbol, ran}
 use Rattle.ordering.proofs.Times.{same-true, same-refl}
-use Rattle.ordering.proofs.InPlan.{dead-no-helper, message-in, exchange-in, place-in, in-place}
+use Rattle.ordering.proofs.InPlan.{in-plan, dead-no-helper, message-in, exchange-in, in-place, runs-in}
 
 module _ (c : Code) (s : Shape) (dead helpers nodes : List ℕ) (R : Repairable s dead helpers) (list : List Transfer) (M : MayRun dead helpers list) where
   abbrev rank : ℕ → ℕ
@@ -61,14 +60,11 @@ module _ (c : Code) (s : Shape) (dead helpers nodes : List ℕ) (R : Repairable 
 
   -- a sender of the plan that is no helper is dead
   sender-is : (t : Transfer) → inPlan dead helpers t ≡ true → member (t .sender) helpers ≡ false → member (t .sender) dead ≡ true
-  unfolding inPlan
-  sender-is t e f = go (member (t .receiver) dead) (member (t .sender) helpers) (member (t .sender) dead) (not (eqb (t .sender) (t .receiver))) e f
+  sender-is t e f = go (in-plan dead helpers t e .1)
     where
-      go : (a b d e : Bool) → (a && (b || (d && e))) ≡ true → b ≡ false → d ≡ true
-      go a b true e h f = refl
-      go true true false e h f = absurd (true≢false f)
-      go true false false e h f = absurd (false≢true h)
-      go false b false e h f = absurd (false≢true h)
+      go : (member (t .sender) helpers ≡ true) ⊎ ((member (t .sender) dead ≡ true) × (t .sender ≢ t .receiver)) → member (t .sender) dead ≡ true
+      go (inl m) = absurd (true≢false (sym m ∙ f))
+      go (inr v) = v .0
 
   -- x transfers in, what has been sent is what the whole repair sends
   abbrev Right : ℕ → Type 0
@@ -91,14 +87,11 @@ module _ (c : Code) (s : Shape) (dead helpers nodes : List ℕ) (R : Repairable 
       B : List ℕ → List ℕ
       B messages = exchange c s dead helpers (rank (at list x .sender)) messages (at list x .receiver)
 
-      planned : inPlan dead helpers (at list x) ≡ true
-      planned = let w = M .planned x h in sym (ap (inPlan dead helpers) (w .is)) ∙ place-in s dead helpers R (w .place) (w .below)
-
       go : (b : Bool) → member (at list x .sender) helpers ≡ b
           → cond b A (B (helpersHeard helpers (after x) (at list x .sender)))
           ≡ cond b A (B (fromHelpers c s dead helpers nodes (rank (at list x .sender))))
       go true e = refl
-      go false e = ap B (holds x h right (sender-is (at list x) planned e))
+      go false e = ap B (holds x h right (sender-is (at list x) (runs-in s dead helpers R list M x h) e))
 
   right-next : (x : ℕ) → x < length list → Right x → Right (suc x)
   unfolding delivered heard
