@@ -7,6 +7,7 @@ use native.Mathlib.Nat.{mod-lt, mul-mod-right, mul-mod-left, zero-mod, mod-mod-o
 use native.Mathlib.Omega.{arith}
 use borrow.Author.Tests.{eq-eqb, ne-eqb}
 use lib.Dec.{eqb}
+use Rattle.lists.proofs.Tests.{each-more}
 use Rattle.choosing.specs.Promises.{Common}
 
 -- one number is 0 exactly if two others are
@@ -33,11 +34,7 @@ NoneBefore l s j = (i : ℕ) → 0 < i → i < j → (l * i) % s ≡ 0 → ⊥
 
 module _ (l s j : ℕ) (fails : (l * j) % s ≡ 0 → ⊥) where
   pub none-more : NoneBefore l s j → NoneBefore l s (j + 1)
-  none-more none i p m = go (ℕ-discrete i j)
-    where
-      go : Dec (i ≡ j) → (l * i) % s ≡ 0 → ⊥
-      go (yes e) z = fails (ap (λ n. (l * n) % s) (sym e) ∙ z)
-      go (no d) z = none i p (omega arith) z
+  none-more none i p m = each-more (λ y. 0 < y → (l * y) % s ≡ 0 → ⊥) j (λ y h o. none y o h) (λ o. fails) i m p
 
   -- the search ends at l × s
   pub before-last : j ≤ s → j < s

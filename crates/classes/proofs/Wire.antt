@@ -16,8 +16,26 @@ use Rattle.classes.specs.Classes.{node, messageSize}
 use Rattle.classes.specs.Steps.{helperMessage, ownPairs, exchange, otherRank, place, contents}
 use Rattle.classes.specs.Whole.{fromHelper, fromHelpers, fromSender, fromDead, wire, renewed}
 use Rattle.classes.proofs.Placing.{place-below, other-place}
-use Rattle.classes.proofs.Dead.{Accepted, dead-of}
+use Rattle.classes.proofs.Dead.{Dead, Accepted, dead-of}
 use Rattle.classes.proofs.FirstStep.{message-length, exchange-length}
+
+-- ---- how many symbols go to a rank
+
+pub from-helpers-length : {s : Shape} {dead : List ℕ} → Dead s dead → (c : Code) (helpers nodes : List ℕ) → length helpers ≡ s .k + 1 → (u : ℕ)
+    → length (fromHelpers c s dead helpers nodes u) ≡ (s .k + 1) * messageSize s dead
+unfolding fromHelpers fromHelper
+from-helpers-length {s} {dead} D c helpers nodes e u =
+    flat-length (messageSize s dead) (fromHelper c s dead helpers nodes u) (length helpers) (λ j _. message-length D c u (piece (size s) (getD helpers j 0) nodes))
+    ∙ ap (λ z. z * messageSize s dead) e
+
+pub from-sender-length : (c : Code) (s : Shape) (dead helpers nodes : List ℕ) (u j : ℕ) → length (fromSender c s dead helpers nodes u j) ≡ messageSize s dead
+unfolding fromSender
+from-sender-length c s dead helpers nodes u j = exchange-length c s dead helpers (otherRank u j) (fromHelpers c s dead helpers nodes (otherRank u j)) (node dead u)
+
+pub from-dead-length : (c : Code) (s : Shape) (dead helpers nodes : List ℕ) (u : ℕ) → length (fromDead c s dead helpers nodes u) ≡ (length dead - 1) * messageSize s dead
+unfolding fromDead
+from-dead-length c s dead helpers nodes u =
+    flat-length (messageSize s dead) (fromSender c s dead helpers nodes u) (length dead - 1) (λ j _. from-sender-length c s dead helpers nodes u j)
 
 module _ (c : Code) (s : Shape) (dead helpers nodes : List ℕ) (A : Accepted c s dead helpers) where
   abbrev M : ℕ
@@ -46,8 +64,7 @@ module _ (c : Code) (s : Shape) (dead helpers nodes : List ℕ) (A : Accepted c 
     helper-length j = message-length (dead-of A) c u (piece (size s) (getD helpers j 0) nodes)
 
     helpers-length : length (fromHelpers′ u) ≡ K * M
-    unfolding fromHelpers
-    helpers-length = flat-length M (fromHelper c s dead helpers nodes u) (length helpers) (λ j _. helper-length j) ∙ ap (λ z. z * M) (A .lists .helpers-count)
+    helpers-length = from-helpers-length (dead-of A) c helpers nodes (A .lists .helpers-count) u
 
     helpers-piece : (j : ℕ) → j < length helpers → piece M j (fromHelpers′ u) ≡ helperMessage c s dead u (piece (size s) (getD helpers j 0) nodes)
     unfolding fromHelpers fromHelper
@@ -61,12 +78,10 @@ module _ (c : Code) (s : Shape) (dead helpers nodes : List ℕ) (A : Accepted c 
     helpers-at j x l k = flat-at M (fromHelper c s dead helpers nodes u) (length helpers) (λ j _. helper-length j) j x 0 l k
 
     sender-length : (j : ℕ) → length (fromSender c s dead helpers nodes u j) ≡ M
-    unfolding fromSender
-    sender-length j = exchange-length c s dead helpers (otherRank u j) (fromHelpers′ (otherRank u j)) (node dead u)
+    sender-length = from-sender-length c s dead helpers nodes u
 
     dead-length : length (fromDead′ u) ≡ (h - 1) * M
-    unfolding fromDead
-    dead-length = flat-length M (fromSender c s dead helpers nodes u) (h - 1) (λ j _. sender-length j)
+    dead-length = from-dead-length c s dead helpers nodes u
 
     module _ (l : u < h) (v : ℕ) (m : v < h) (d : v ≢ u) where
       from-rank : fromSender c s dead helpers nodes u (place u v) ≡ exchange c s dead helpers v (fromHelpers′ v) (node dead u)

@@ -4,7 +4,6 @@ use mathlib.Core.Logic.{_≢_}
 use mathlib.Core.Bool.{Bool, true, false, true≢false}
 use mathlib.Core.List.{List, [], _++_, append-nil}
 use Prim.Native.Nat.{ℕ, zero, suc, _+_, _*_, _-_, _/_, _%_, _≤_, _<_}
-use native.Mathlib.Nat.{mod-lt}
 use native.Mathlib.Omega.{arith}
 use lib.ListN.{length, getD, drop, length-drop, take-append-drop}
 use lib.Seq.{ext-getD, getD-drop}
@@ -16,21 +15,17 @@ use Rattle.lists.proofs.Flats.{flat-length, flat-at, flat-piece, piece-at}
 use Rattle.lists.proofs.Places.{Place, place-of}
 use Rattle.shape.specs.declared.Shape.{Shape}
 use Rattle.shape.specs.Shape.{size}
-use Rattle.rows.specs.Rows.{Low}
-use Rattle.rows.proofs.Rows.{low-flat}
 use Rattle.code.specs.Code.{narrow}
 use Rattle.classes.specs.Classes.{node, messageSize}
-use Rattle.classes.specs.Steps.{added, place, otherRank, exchangeAt, exchange, solved, ownPairs, contents}
+use Rattle.classes.specs.Steps.{place, otherRank, exchangeAt, exchange, solved, ownPairs, contents}
 use Rattle.classes.specs.Whole.{fromHelpers, fromSender, fromDead, wire, renewed, repairedSymbol, repaired}
 use Rattle.solving.specs.Solving.{slotOf}
 use Rattle.wiring.specs.Wires.{inward, inwards, toRank, Messaged, Wired, Exchanged, fromOthers, Renewable, Renewed}
 use Rattle.classes.proofs.Dead.{Dead, Accepted, dead-of}
 use Rattle.classes.proofs.Placing.{other-is}
-use Rattle.classes.proofs.FirstStep.{exchange-length}
-use Rattle.classes.proofs.Wire.{helpers-at}
-use Rattle.classes.proofs.Messages.{messageAt, message-table}
+use Rattle.classes.proofs.Wire.{from-sender-length, from-dead-length}
 use Rattle.wiring.proofs.OnWire.{helpers-length}
-use Rattle.repair.proofs.Below.{pairs-low, exchange-low}
+use Rattle.repair.proofs.Below.{pairs-low, from-helpers-helped, from-dead-low}
 
 -- a list of n times m elements by its rows
 is-flat : (n m : ℕ) (f : ℕ → List ℕ) (l : List ℕ) → ((i : ℕ) → length (f i) ≡ m) → length l ≡ n * m → ((i x : ℕ) → i < n → x < m → getD l (i * m + x) 0 ≡ getD (f i) x 0) → l ≡ flat n f
@@ -89,41 +84,15 @@ module _ (s : Shape) (dead helpers nodes wire₀ W₁ : List ℕ) (A : Accepted 
       ap (piece K u) (sym (take-append-drop (inwards s dead) W₁) ∙ ap (λ z. z ++ drop (inwards s dead) W₁) (G .head))
       ∙ flat-piece K told h (λ i _. told-length i) (drop (inwards s dead) W₁) u l 0
 
-  told-below : (u j x : ℕ) → u < h → j < s .k + 1 → x < M → getD (told u) (j * M + x) 0 < narrow .modulus
-  unfolding messageAt added
-  told-below u j x l k m =
-      let j-low : j < length helpers = rw (A .lists .helpers-count) k in
-      rw (
-        helpers-at narrow s dead helpers nodes A u j x j-low m,
-        message-table narrow D u (piece (size s) (getD helpers j 0) nodes),
-        tabulate-at M (messageAt narrow s dead u (piece (size s) (getD helpers j 0) nodes)) x 0 m,
-      )
-      (mod-lt _ (omega arith))
-
   pub wired : Wired s dead helpers W₁
   unfolding inward
   wired = record {
     long = wired-long;
-    helped = λ u l. record {
-      rises = A .lists .helpers-rising;
-      count = A .lists .helpers-count;
-      apart = A .lists .apart;
-      rank = l;
-      long = ap length (to-rank u l) ∙ told-length u;
-      below = λ j x k m. rw (to-rank u l) (told-below u j x l k m);
-    };
+    helped = λ u l. rw (to-rank u l) (from-helpers-helped s dead helpers nodes A u l);
   }
 
   module _ (N₁ W₂ : List ℕ) (E : Exchanged s dead helpers nodes N₁ W₁ W₂) where
     -- ---- the wire
-
-    sender-length : (v j : ℕ) → length (fromSender narrow s dead helpers nodes v j) ≡ M
-    unfolding fromSender
-    sender-length v j = exchange-length narrow s dead helpers (otherRank v j) (told (otherRank v j)) (node dead v)
-
-    among-length : (v : ℕ) → length (fromDead narrow s dead helpers nodes v) ≡ (h - 1) * M
-    unfolding fromDead
-    among-length v = flat-length M (fromSender narrow s dead helpers nodes v) (h - 1) (λ j _. sender-length v j)
 
     back : List ℕ
     back = drop (inwards s dead) W₂
@@ -150,11 +119,11 @@ module _ (s : Shape) (dead helpers nodes wire₀ W₁ : List ℕ) (A : Accepted 
     back-row v z l k =
         let p = place-of (h - 1) M z k in
         ap (λ y. getD back (v * ((h - 1) * M) + y) 0) (sym (p .whole)) ∙ exchanged v (z / M) (z % M) l (p .row) (p .place)
-        ∙ sym (flat-at M (fromSender narrow s dead helpers nodes v) (h - 1) (λ j _. sender-length v j) (z / M) (z % M) 0 (p .row) (p .place))
+        ∙ sym (flat-at M (fromSender narrow s dead helpers nodes v) (h - 1) (λ j _. from-sender-length narrow s dead helpers nodes v j) (z / M) (z % M) 0 (p .row) (p .place))
         ∙ ap (λ y. getD (fromDead narrow s dead helpers nodes v) y 0) (p .whole)
 
     back-is : back ≡ flat h (fromDead narrow s dead helpers nodes)
-    back-is = is-flat h ((h - 1) * M) (fromDead narrow s dead helpers nodes) back among-length back-length back-row
+    back-is = is-flat h ((h - 1) * M) (fromDead narrow s dead helpers nodes) back (from-dead-length narrow s dead helpers nodes) back-length back-row
 
     pub wire-is : W₂ ≡ wire narrow s dead helpers nodes
     unfolding wire back
@@ -166,16 +135,7 @@ module _ (s : Shape) (dead helpers nodes wire₀ W₁ : List ℕ) (A : Accepted 
     unfolding fromOthers back
     others-are u l =
         ap (piece ((h - 1) * M) u) (back-is ∙ sym (append-nil (flat h (fromDead narrow s dead helpers nodes))))
-        ∙ flat-piece ((h - 1) * M) (fromDead narrow s dead helpers nodes) h (λ v _. among-length v) [] u l 0
-
-    among-low : (u : ℕ) → u < h → Low (narrow .modulus) (fromDead narrow s dead helpers nodes u)
-    unfolding fromDead fromSender
-    among-low u l =
-        low-flat (narrow .modulus) M (h - 1) (fromSender narrow s dead helpers nodes u) (omega arith) (sender-length u)
-        (λ j k.
-        let v = otherRank u j in
-        let m : v < h = other-is h u j l k .0 in
-        exchange-low s dead helpers A v (told v) (rw (to-rank v m) at (wired .helped v m)) (node dead u))
+        ∙ flat-piece ((h - 1) * M) (fromDead narrow s dead helpers nodes) h (λ v _. from-dead-length narrow s dead helpers nodes v) [] u l 0
 
     pub renewable : Renewable s dead N₁ W₂
     renewable = record {
@@ -184,7 +144,7 @@ module _ (s : Shape) (dead helpers nodes wire₀ W₁ : List ℕ) (A : Accepted 
         paired = E .own u l;
         low = pairs-low s dead helpers A u (toRank s dead u W₁) (wired .helped u l);
       };
-      received = λ u l. rw (others-are u l) (among-low u l);
+      received = λ u l. rw (others-are u l) (from-dead-low s dead helpers nodes A u l);
     }
 
     -- ---- the nodes

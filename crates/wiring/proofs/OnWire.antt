@@ -5,10 +5,9 @@ use Prim.Native.Nat.{ℕ, _+_, _*_, _-_, _≤_, _<_}
 use native.Mathlib.Nat.{mul-le-mul}
 use native.Mathlib.Omega.{arith}
 use borrow.Rule.Slice.PartMut.{putMid}
-use lib.ListN.{length, getD, take, drop, length-drop}
+use lib.ListN.{length, take, drop, length-drop}
 use lib.Seq.{drop-drop}
 use Rattle.lists.specs.Lists.{piece}
-use Rattle.lists.proofs.Flats.{flat-length}
 use Rattle.lists.proofs.Buffers.{part-of}
 use Rattle.shape.specs.declared.Shape.{Shape}
 use Rattle.shape.specs.Shape.{size, mostNodes}
@@ -17,20 +16,18 @@ use Rattle.code.specs.Code.{narrow}
 use Rattle.classes.specs.declared.Layout.{Layout}
 use Rattle.classes.specs.Classes.{messageSize}
 use Rattle.classes.specs.Layout.{Ready}
-use Rattle.classes.specs.Whole.{fromHelper, fromHelpers}
+use Rattle.classes.specs.Whole.{fromHelpers}
 use Rattle.solving.specs.Solving.{Put}
 use Rattle.wiring.specs.Wires.{inward, inwards, toRank, fromOthers}
 use Rattle.classes.proofs.Dead.{Dead}
-use Rattle.classes.proofs.FirstStep.{message-length}
+use Rattle.classes.proofs.Wire.{from-helpers-length}
 use Rattle.classes.proofs.Layouts.{bounded, share-high}
 use Rattle.lists.proofs.Parts.{row-within, piece-part, piece-front, tail-lent, tail-back}
 
 pub helpers-length : {s : Shape} {dead : List ℕ} → Dead s dead → (helpers nodes : List ℕ) → length helpers ≡ s .k + 1 → (u : ℕ)
     → length (fromHelpers narrow s dead helpers nodes u) ≡ inward s dead
-unfolding fromHelpers fromHelper inward
-helpers-length {s} {dead} D helpers nodes e u =
-    flat-length (messageSize s dead) (fromHelper narrow s dead helpers nodes u) (length helpers) (λ j _. message-length D narrow u (piece (size s) (getD helpers j 0) nodes))
-    ∙ ap (λ z. z * messageSize s dead) e
+unfolding inward
+helpers-length D helpers nodes e u = from-helpers-length D narrow helpers nodes e u
 
 -- what is to one rank goes by the helpers' messages alone
 pub to-rank-front : (s : Shape) (dead : List ℕ) (u : ℕ) (l k : List ℕ) → u < length dead → inwards s dead ≤ length l → inwards s dead ≤ length k
