@@ -4,14 +4,12 @@ use mathlib.Core.Path.{_≡_, refl, sym, ap, ap₂, subst, _∙_}
 use mathlib.Core.Logic.{_≢_, _⊎_, inl, inr}
 use mathlib.Core.Bool.{true, false, true≢false}
 use mathlib.Core.List.{List, [], append-nil}
-use Prim.Native.Nat.{ℕ, _+_, _*_, _-_, _<_}
-use native.Mathlib.Nat.{mod-lt}
+use Prim.Native.Nat.{ℕ, _*_, _-_, _<_}
 use native.Mathlib.Omega.{arith}
 use borrow.Author.Tests.{eq-eqb}
-use lib.ListN.{length, getD, take, length-map}
+use lib.ListN.{length, getD, take}
 use Rattle.lists.specs.Lists.{all, below, member, position, outside, piece}
 use Rattle.lists.proofs.Tests.{cond-true, cond-false, at-all-below}
-use Rattle.lists.proofs.Tables.{map-at}
 use Rattle.lists.proofs.Members.{member-of, at-position, rising-below}
 use Rattle.lists.proofs.Flats.{flat-length, flat-piece, piece-length}
 use Rattle.lists.proofs.Parts.{row-within}
@@ -23,21 +21,19 @@ use Rattle.shape.specs.Refusals.{wrongLength, symbolBad}
 use Rattle.shape.proofs.Accepted.{Repairable, repair-accepted}
 use Rattle.shape.proofs.Answers.{number-only, afterwards-done}
 use Rattle.rows.specs.Rows.{Low}
-use Rattle.rows.proofs.Rows.{low-each, low-flat}
 use Rattle.code.specs.Code.{narrow}
 use Rattle.transfers.specs.declared.Transfer.{Transfer}
-use Rattle.classes.specs.Classes.{node, spots, noSpot, messageSize}
-use Rattle.classes.specs.Steps.{added, helperMessage, ownPair, ownPairs, exchange, exchangeTo, exchanges, otherRank, place, contents}
-use Rattle.classes.specs.Whole.{fromHelper, fromHelpers, fromSender, fromDead}
+use Rattle.classes.specs.Classes.{node, messageSize}
+use Rattle.classes.specs.Steps.{ownPair, ownPairs, exchange, exchangeTo, exchanges, place, contents}
+use Rattle.classes.specs.Whole.{fromHelpers, fromDead}
 use Rattle.classes.proofs.Dead.{Accepted, dead-of, node-position}
-use Rattle.classes.proofs.Placing.{place-below, other-place, other-is}
-use Rattle.classes.proofs.FirstStep.{message-length, exchange-length}
-use Rattle.solving.specs.Solving.{Helped}
+use Rattle.classes.proofs.Placing.{place-below, other-place}
+use Rattle.classes.proofs.FirstStep.{exchange-length}
+use Rattle.classes.proofs.Wire.{from-helpers-length, from-dead-length}
 use Rattle.judging.specs.Refusals.{listsRefusal, messageRefusal, firstStepRefusal, secondStepRefusal, nodeGood, wholeRefusal}
-use Rattle.judging.proofs.Judged.{lists-accepted, WholePassed, whole-passed, first-passed}
+use Rattle.judging.proofs.Judged.{lists-accepted, WholePassed, whole-passed}
 use Rattle.repair.specs.Promises.{HelperMessage, FirstStep, SecondStep}
-use Rattle.repair.proofs.Helping.{first-helped}
-use Rattle.repair.proofs.Below.{pairs-low, exchange-low}
+use Rattle.repair.proofs.Below.{pairs-low, from-helpers-low, from-helpers-helped, from-dead-low}
 use Rattle.ordering.specs.Ordering.{pairs, at, orderRefusal}
 use Rattle.ordering.specs.Following.{inPlan}
 use Rattle.ordering.specs.Running.{Delivery, helpersHeard, fellowsHeard, sends, run, rebuilt}
@@ -99,26 +95,7 @@ module _ (s : Shape) (dead helpers numbers nodes : List ℕ) (room : ℕ) (z : o
       let free = ap (messageRefusal narrow s dead helpers (t .sender) (t .receiver) (piece (size s) (t .sender) nodes)) long ∙ message-free _ _ m (receiver-dead x h) in
       (number-only answer Done (p .number ∙ free), p .message ∙ afterwards-done before _ _ free ∙ sym (cond-true _ _ _ m))
 
-  -- ---- what the helpers send to rank u
-
-  message-low : (u : ℕ) (symbols : List ℕ) → Low (narrow .modulus) (helperMessage narrow s dead u symbols)
-  unfolding helperMessage added
-  message-low u symbols =
-      low-each (narrow .modulus) (helperMessage narrow s dead u symbols) (omega arith)
-      (λ e l.
-      rw (map-at (added narrow symbols) (spots s dead u) e noSpot 0 (rw (length-map (spots s dead u) (added narrow symbols)) at l))
-      (mod-lt _ (omega arith)))
-
-  told-length : (u : ℕ) → length (fromHelpers narrow s dead helpers nodes u) ≡ (s .k + 1) * M
-  unfolding fromHelpers fromHelper
-  told-length u =
-      flat-length M (fromHelper narrow s dead helpers nodes u) (length helpers) (λ j _. message-length (dead-of A) narrow u _) ∙ ap (λ y. y * M) (R .helpers-count)
-
-  told-low : (u : ℕ) → Low (narrow .modulus) (fromHelpers narrow s dead helpers nodes u)
-  unfolding fromHelpers fromHelper
-  told-low u =
-      low-flat (narrow .modulus) M (length helpers) (fromHelper narrow s dead helpers nodes u) (omega arith) (λ j. message-length (dead-of A) narrow u _)
-      (λ j _. message-low u _)
+  -- ---- a dead node
 
   all-low : (xs : List ℕ) → Low (narrow .modulus) xs → all (below (narrow .modulus)) xs ≡ true
   all-low xs l = at-all-below (narrow .modulus) xs (λ j _. l .at j)
@@ -132,15 +109,24 @@ module _ (s : Shape) (dead helpers numbers nodes : List ℕ) (room : ℕ) (z : o
         O .listed .lists,
         d,
         O .listed .layers,
-        eq-eqb _ _ (told-length (position i dead)),
+        eq-eqb _ _ (from-helpers-length (dead-of A) narrow helpers nodes (R .helpers-count) (position i dead)),
         eq-eqb (2 * M) (2 * M) refl,
         eq-eqb ((length dead - 1) * M) ((length dead - 1) * M) refl,
-        all-low _ (told-low (position i dead)),
+        all-low _ (from-helpers-low s dead helpers nodes A (position i dead)),
       ) refl
 
-  -- ---- a dead node
+  -- a first step on what all k+1 helpers have sent
+  first-at : (i : ℕ) → member i dead ≡ true → (messages : List ℕ) → messages ≡ fromHelpers narrow s dead helpers nodes (position i dead)
+      → (own sums own-after sums-after : List ℕ) (answer : Answer) → length own ≡ 2 * M → length sums ≡ (length dead - 1) * M
+      → FirstStep s dead helpers i messages own sums own-after sums-after answer
+      → (answer ≡ Done) × (own-after ≡ ownPairs narrow s dead helpers (position i dead) messages) × (sums-after ≡ exchanges narrow s dead helpers (position i dead) messages)
+  first-at i d messages e own sums own-after sums-after answer long among p =
+      let free =
+      ap₂ (firstStepRefusal narrow s dead helpers i messages) long among
+      ∙ ap (λ y. firstStepRefusal narrow s dead helpers i y (2 * M) ((length dead - 1) * M)) e ∙ first-free i d in
+      (number-only answer Done (p .number ∙ free), p .own ∙ afterwards-done own _ _ free, p .sent ∙ afterwards-done sums _ _ free)
 
-  -- the first step's message to rank v
+  -- its message to rank v
   exchange-piece : (u v : ℕ) (messages : List ℕ) → u < length dead → v < length dead → v ≢ u
       → piece M (place u v) (exchanges narrow s dead helpers u messages) ≡ exchange narrow s dead helpers u messages (node dead v)
   unfolding exchanges exchangeTo
@@ -175,13 +161,9 @@ module _ (s : Shape) (dead helpers numbers nodes : List ℕ) (room : ℕ) (z : o
       let t = at (pairs numbers) x in
       let from = at-position dead (t .sender) d in
       let to = at-position dead (t .receiver) (receiver-dead x h) in
-      let free =
-      ap₂ (firstStepRefusal narrow s dead helpers (t .sender) (helpersHeard helpers (log x) (t .sender))) long among
-      ∙ ap (λ y. firstStepRefusal narrow s dead helpers (t .sender) y (2 * M) ((length dead - 1) * M))
-      (sender-holds narrow s dead helpers nodes R (pairs numbers) (O .may) x h d)
-      ∙ first-free (t .sender) d in (
-        number-only answer Done (p .number ∙ free),
-        ap (piece M (place (position (t .sender) dead) (position (t .receiver) dead))) (p .sent ∙ afterwards-done sums _ _ free)
+      let f = first-at (t .sender) d _ (sender-holds narrow s dead helpers nodes R (pairs numbers) (O .may) x h d) own sums own-after sums-after answer long among p in (
+        f .0,
+        ap (piece M (place (position (t .sender) dead) (position (t .receiver) dead))) (f .2)
             ∙ exchange-piece (position (t .sender) dead) (position (t .receiver) dead) (helpersHeard helpers (log x) (t .sender)) (from .0) (to .0) (receiver-other x h d)
             ∙ ap (exchange narrow s dead helpers (position (t .sender) dead) (helpersHeard helpers (log x) (t .sender))) (to .1)
             ∙ sym (cond-false _ _ _ (dead-no-helper s dead helpers R (t .sender) d)),
@@ -192,43 +174,42 @@ module _ (s : Shape) (dead helpers numbers nodes : List ℕ) (room : ℕ) (z : o
   abbrev end : List Delivery
   end = run narrow s dead helpers nodes [] (pairs numbers)
 
-  helped : (u : ℕ) → u < length dead → Helped s dead helpers u (fromHelpers narrow s dead helpers nodes u)
+  rank-dead : (u : ℕ) → u < length dead → member (node dead u) dead ≡ true
   unfolding node
-  helped u l =
-      let free = subst (λ y. firstStepRefusal narrow s dead helpers (node dead u) (fromHelpers narrow s dead helpers nodes y) (2 * M) ((length dead - 1) * M) ≡ 0)
-      (node-position (dead-of A) u l) (first-free (node dead u) (member-of dead u l)) in
-      first-helped s dead helpers (node dead u) _ (2 * M) ((length dead - 1) * M) u (first-passed s dead helpers (node dead u) _ (2 * M) ((length dead - 1) * M) free) l
+  rank-dead u l = member-of dead u l
+
+  -- a dead node's first step in the end, whether it has sent or, alone, has nobody to send to: its own pairs
+  pub own-called : (u : ℕ) → u < length dead → (own sums own-after sums-after : List ℕ) (answer : Answer) → length own ≡ 2 * messageSize s dead
+      → length sums ≡ (length dead - 1) * messageSize s dead
+      → FirstStep s dead helpers (node dead u) (helpersHeard helpers (run narrow s dead helpers nodes [] (pairs numbers)) (node dead u)) own sums own-after sums-after answer
+      → (answer ≡ Done)
+      × (own-after ≡ ownPairs narrow s dead helpers u (helpersHeard helpers (run narrow s dead helpers nodes [] (pairs numbers)) (node dead u)))
+  own-called u l own sums own-after sums-after answer long among p =
+      let back = node-position (dead-of A) u l in
+      let all = helpers-end narrow s dead helpers nodes R (pairs numbers) (O .may) u l ∙ ap (fromHelpers narrow s dead helpers nodes) (sym back) in
+      let f = first-at (node dead u) (rank-dead u l) _ all own sums own-after sums-after answer long among p in
+      (f .0, f .1 ∙ ap (λ v. ownPairs narrow s dead helpers v (helpersHeard helpers end (node dead u))) back)
 
   own-length : (u : ℕ) → length (ownPairs narrow s dead helpers u (fromHelpers narrow s dead helpers nodes u)) ≡ 2 * M
   unfolding ownPairs ownPair
   own-length u = flat-length 2 (ownPair narrow s dead helpers u (fromHelpers narrow s dead helpers nodes u)) M (λ x _. refl) ∙ omega arith
 
-  among-length : (u : ℕ) → length (fromDead narrow s dead helpers nodes u) ≡ (length dead - 1) * M
-  unfolding fromDead fromSender
-  among-length u = flat-length M (fromSender narrow s dead helpers nodes u) (length dead - 1) (λ j _. exchange-length narrow s dead helpers _ _ _)
-
-  among-low : (u : ℕ) → u < length dead → Low (narrow .modulus) (fromDead narrow s dead helpers nodes u)
-  unfolding fromDead fromSender
-  among-low u l =
-      low-flat (narrow .modulus) M (length dead - 1) (fromSender narrow s dead helpers nodes u) (omega arith) (λ j. exchange-length narrow s dead helpers _ _ _)
-      (λ j k. exchange-low s dead helpers A (otherRank u j) _ (helped (otherRank u j) (other-is (length dead) u j l k .0)) (node dead u))
-
   second-free : (u : ℕ) → u < length dead
       → secondStepRefusal narrow s dead helpers (node dead u) (ownPairs narrow s dead helpers u (fromHelpers narrow s dead helpers nodes u))
       (fromDead narrow s dead helpers nodes u) (size s)
       ≡ 0
-  unfolding secondStepRefusal listsRefusal outside wrongLength symbolBad node
+  unfolding secondStepRefusal listsRefusal outside wrongLength symbolBad
   second-free u l =
       rw (
         O .listed .shaped,
         O .listed .lists,
-        member-of dead u l,
+        rank-dead u l,
         O .listed .layers,
         eq-eqb _ _ (own-length u),
-        eq-eqb _ _ (among-length u),
+        eq-eqb _ _ (from-dead-length narrow s dead helpers nodes u),
         eq-eqb (size s) (size s) refl,
-        all-low _ (pairs-low s dead helpers A u _ (helped u l)),
-        all-low _ (among-low u l),
+        all-low _ (pairs-low s dead helpers A u _ (from-helpers-helped s dead helpers nodes A u l)),
+        all-low _ (from-dead-low s dead helpers nodes A u l),
       ) refl
 
   -- a dead node that is called at the end, with its own pairs and what its fellows have sent to it

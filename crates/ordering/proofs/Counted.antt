@@ -4,12 +4,10 @@ use mathlib.Core.Path.{_≡_, refl, sym, ap, ap₂, _∙_}
 use mathlib.Core.Bool.{true, _&&_, cond}
 use mathlib.Core.List.{List, [], _∷_}
 use Prim.Native.Nat.{ℕ, _+_, _<_}
-use native.Mathlib.Decide.{ℕ-discrete}
 use native.Mathlib.Omega.{arith}
-use borrow.Author.Tests.{eq-eqb, ne-eqb}
-use lib.Dec.{eqb}
 use lib.ListN.{length}
 use Rattle.lists.specs.Sums.{sum}
+use Rattle.lists.proofs.Tests.{eqb-sym}
 use Rattle.lists.proofs.Sums.{sum-ext, sum-first, sum-const, sum-swap, sum-ones}
 use Rattle.shape.specs.declared.Shape.{Shape}
 use Rattle.shape.proofs.Accepted.{Repairable}
@@ -27,13 +25,6 @@ times-places : (t : Transfer) (us : List Transfer) → times t us ≡ sum (lengt
 unfolding times at sum
 times-places t [] = refl
 times-places t (u ∷ us) = ap (λ z. cond (same t u) 1 0 + z) (times-places t us) ∙ sym (sum-first (length us) (λ e. cond (same t (at (u ∷ us) e)) 1 0))
-
-eqb-sym : (a b : ℕ) → eqb a b ≡ eqb b a
-eqb-sym a b = go (ℕ-discrete a b)
-  where
-    go : Dec (a ≡ b) → eqb a b ≡ eqb b a
-    go (yes e) = eq-eqb a b e ∙ sym (eq-eqb b a (sym e))
-    go (no d) = ne-eqb a b d ∙ sym (ne-eqb b a (λ e. d (sym e)))
 
 same-sym : (t u : Transfer) → same t u ≡ same u t
 unfolding same

@@ -1,6 +1,6 @@
 -- A list gone through from its front: it may run exactly if it is as long as the plan and each transfer may follow those before it; and the
 -- table of what has been sent, a transfer more.
-use mathlib.Core.Path.{_≡_, refl, sym, ap, ap₂, subst, _∙_}
+use mathlib.Core.Path.{_≡_, refl, sym, ap, ap₂, _∙_}
 use mathlib.Core.Logic.{_≢_, _⊎_, inl, inr}
 use mathlib.Core.Bool.{Bool, true, false, not, _&&_, _||_, cond, true≢false}
 use mathlib.Core.List.{List, []}
@@ -23,14 +23,6 @@ use Rattle.ordering.specs.Following.{inPlan, byList, byTable, sentTo, ma
 use Rattle.ordering.proofs.Times.{same-true, same-refl, stands-place, place-stands, front-place, place-front, behind-ready, tests-passed, says, times-none, times-next}
 use Rattle.ordering.proofs.InPlan.{in-plan, runs-in, planned-by-lists}
 use Rattle.ordering.proofs.Counted.{all-stand, yes-length}
-
--- what holds below x, and at x, holds below x + 1
-pub each-more : (P : ℕ → Type 0) (x : ℕ) → ((y : ℕ) → y < x → P y) → P x → (y : ℕ) → y < x + 1 → P y
-each-more P x below at y h = go (below-or-not y x)
-  where
-    go : (y < x) ⊎ (x ≤ y) → P y
-    go (inl l) = below y l
-    go (inr l) = subst P (let e : x ≡ y = omega arith in e) at
 
 -- ---- each transfer by those before it
 

@@ -1,7 +1,7 @@
 -- The plan: which transfers are in it, each of them once; and that it may run in its own order.
 use mathlib.Core.Path.{_≡_, refl, sym, ap, ap₂, subst, _∙_}
 use mathlib.Core.Logic.{_≢_, _⊎_, inl, inr}
-use mathlib.Core.Bool.{Bool, true, false, not, _&&_, _||_}
+use mathlib.Core.Bool.{Bool, true, false, true≢false, not, _&&_, _||_}
 use mathlib.Core.List.{List}
 use Prim.Native.Nat.{ℕ, _+_, _*_, _-_, _/_, _%_, _<_, _≤_}
 use native.Mathlib.Omega.{arith}
@@ -105,29 +105,19 @@ module _ (s : Shape) (dead helpers : List ℕ) (R : Repairable s dead helpers) w
 
   -- ---- the transfers by their nodes
 
-  parts : (t : Transfer) → inPlan dead helpers t ≡ (member (t .receiver) dead && (member (t .sender) helpers || (member (t .sender) dead && not (eqb (t .sender) (t .receiver)))))
-  unfolding inPlan
-  parts t = refl
-
-  or-true : (b : Bool) → (b || true) ≡ true
-  or-true true = refl
-  or-true false = refl
-
   pub message-in : (u j : ℕ) → u < length dead → j < length helpers → inPlan dead helpers (between (getD helpers j 0) (node dead u)) ≡ true
-  unfolding node
-  message-in u j l m =
-      parts (between (getD helpers j 0) (node dead u))
-      ∙ ap₂ (λ a b. a && (b || (member (getD helpers j 0) dead && not (eqb (getD helpers j 0) (getD dead u 0))))) (member-of dead u l) (member-of helpers j m)
+  unfolding inPlan node
+  message-in u j l m = rw (member-of dead u l, member-of helpers j m) refl
 
   pub exchange-in : (u v : ℕ) → u < length dead → v < length dead → v ≢ u → inPlan dead helpers (between (node dead v) (node dead u)) ≡ true
+  unfolding inPlan node
   exchange-in u v l m d =
-      parts (between (node dead v) (node dead u))
-      ∙ ap₂ _&&_ (is-dead u l)
-      (ap₂ (λ a b. member (node dead v) helpers || (a && not b)) (is-dead v m) (ne-eqb (node dead v) (node dead u) (λ e. d (node-same v u m l e)))
-      ∙ or-true (member (node dead v) helpers))
-    where
-      is-dead : (u : ℕ) → u < h → member (node dead u) dead ≡ true
-      is-dead u l = unfold node in member-of dead u l
+      rw (
+        member-of dead u l,
+        dead-no-helper (getD dead v 0) (member-of dead v m),
+        member-of dead v m,
+        ne-eqb (getD dead v 0) (getD dead u 0) (λ e. d (rising-distinct (s .n) dead (R .dead-rising) v u m l e)),
+      ) refl
 
   pub place-in : (x : ℕ) → x < length (transfers dead helpers) → inPlan dead helpers (at (transfers dead helpers) x) ≡ true
   place-in x l = go (kind x l)
@@ -195,7 +185,7 @@ module _ (s : Shape) (dead helpers : List ℕ) (R : Repairable s dead helpers) w
     where
       go : Kind x → Place plan (between (getD helpers j 0) (at plan x .sender)) x
       go (message u i a b p q) =
-          absurd (mathlib.Core.Bool.true≢false
+          absurd (true≢false
           (sym (member-of helpers i b) ∙ ap (λ z. member z helpers) (ap (λ z. z .sender) (sym q)) ∙ dead-no-helper (at plan x .sender) d))
       go (exchanged u i a b p q) =
           let w = message-place (otherRank u i) j (other-is h u i a b .0) m in

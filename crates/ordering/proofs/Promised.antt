@@ -1,10 +1,13 @@
 -- What a yes promises, for any good code; the list as it is lent; and the promise of the call, from its number.
-use mathlib.Core.Path.{_≡_, refl, sym, ap, subst, _∙_}
+use mathlib.Core.Path.{_≡_, sym, ap, subst, _∙_}
+use mathlib.Core.Logic.{_⊎_, inl, inr}
 use mathlib.Core.Bool.{Bool, true, false, not}
 use mathlib.Core.List.{List}
 use Prim.Native.Nat.{ℕ, _+_, _*_, _/_, _<_}
 use native.Mathlib.Omega.{arith}
+use borrow.Author.Tests.{not-false}
 use lib.ListN.{length, getD}
+use Rattle.lists.proofs.Tests.{true-or-false}
 use Rattle.lists.proofs.Tables.{tabulate-length, tabulate-at}
 use Rattle.shape.specs.declared.Shape.{Shape}
 use Rattle.shape.specs.declared.Answer.{Answer}
@@ -18,7 +21,7 @@ use Rattle.code.specs.Code.{Code, GoodCode, narrow}
 use Rattle.code.proofs.Accepted.{narrow-accepted}
 use Rattle.classes.specs.Whole.{wire, repaired, WholeRepair}
 use Rattle.judging.specs.Refusals.{listsRefusal}
-use Rattle.judging.proofs.Judged.{Listed, listed-passed}
+use Rattle.judging.proofs.Judged.{Listed, listed-passed, refuse-true, refuse-false}
 use Rattle.repair.specs.Promises.{Repaired}
 use Rattle.repair.proofs.Whole.{whole-repair}
 use Rattle.transfers.specs.Plan.{transfers, noTransfer}
@@ -61,17 +64,6 @@ module _ (s : Shape) (dead helpers numbers : List ℕ) where
   unfolding pairsRefusal listsRefusal
   pairs-then rest e = let p = pairs-passed 0 e in rw (p .0 .shaped, p .0 .lists, p .0 .layers, p .1)
 
-  no-number : (b : Bool) → _≡_ {A = ℕ} (refuse (not b) 13 0) 0 → b ≡ true
-  no-number true e = refl
-  no-number false e = absurd (omega arith)
-
-  yes-number : (b : Bool) → b ≡ true → _≡_ {A = ℕ} (refuse (not b) 13 0) 0
-  yes-number b e = rw e
-
-  thirteen-not : (b : Bool) → _≡_ {A = ℕ} (refuse (not b) 13 0) 13 → b ≡ false
-  thirteen-not true e = absurd (omega arith)
-  thirteen-not false e = refl
-
   -- what is known where the number is 0
   pub record Orderly : Type 0 where
     pub listed : Listed s dead helpers false
@@ -79,7 +71,7 @@ module _ (s : Shape) (dead helpers numbers : List ℕ) where
 
   pub order-accepted : orderRefusal s dead helpers numbers ≡ 0 → Orderly
   unfolding orderRefusal
-  order-accepted z = let p = pairs-passed _ z in record { listed = p .0; may = says dead helpers (pairs numbers) (no-number answered (p .2)) }
+  order-accepted z = let p = pairs-passed _ z in record { listed = p .0; may = says dead helpers (pairs numbers) (not-false _ (passed (not answered) 12 0 (p .2) .0)) }
 
   -- "The yes promises that running the list in that order leaves every dead drive as an accepted whole repair of the same archive does":
   -- all n nodes, whatever they hold
@@ -108,17 +100,18 @@ module _ (s : Shape) (dead helpers numbers : List ℕ) where
       unfolding orderRefusal
       decided = e ∙ pairs-then _ free
 
+      may-done : MayRun dead helpers (pairs numbers) → answerNumber answer ≡ 0
+      may-done m = decided ∙ refuse-false (not answered) 13 0 (ap not (said dead helpers (pairs numbers) m))
+
       refused : (MayRun dead helpers (pairs numbers) → ⊥) → answer ≡ Refused BadOrder
-      refused d = number-only answer (Refused BadOrder) (decided ∙ go answered refl)
+      refused d = number-only answer (Refused BadOrder) (go (true-or-false answered))
         where
-          go : (b : Bool) → answered ≡ b → _≡_ {A = ℕ} (refuse (not b) 13 0) 13
-          go true t = absurd (d (says dead helpers (pairs numbers) t))
-          go false t = refl
+          go : (answered ≡ true) ⊎ (answered ≡ false) → answerNumber answer ≡ 13
+          go (inl t) = absurd (d (says dead helpers (pairs numbers) t))
+          go (inr t) = decided ∙ refuse-true (not answered) 13 0 (ap not t)
 
       not-run : answer ≡ Refused BadOrder → MayRun dead helpers (pairs numbers) → ⊥
-      not-run d m =
-          let no = thirteen-not answered (sym decided ∙ ap answerNumber d) in
-          mathlib.Core.Bool.true≢false (sym (said dead helpers (pairs numbers) m) ∙ no)
+      not-run d m = omega (arith, ap answerNumber d, may-done m)
 
     accepted-leaves : answer ≡ Done → (nodes nodes-after wires wires-after : List ℕ) → Repaired s dead helpers nodes nodes-after wires wires-after Done
         → ran narrow s dead helpers nodes (pairs numbers) ≡ nodes-after
@@ -129,7 +122,7 @@ module _ (s : Shape) (dead helpers numbers : List ℕ) where
     pub orders : Orders s dead helpers numbers answer
     orders = record {
       number = e;
-      yes = λ free. (λ d. order-accepted (done d) .may, λ m. number-only answer Done (decided free ∙ yes-number answered (said dead helpers (pairs numbers) m)));
+      yes = λ free. (λ d. order-accepted (done d) .may, λ m. number-only answer Done (may-done free m));
       no = λ free. (not-run free, refused free);
       runs = λ d nodes. runs-as-repair narrow nodes (done d);
       leaves = accepted-leaves;

@@ -11,12 +11,12 @@ use borrow.Author.Tests.{eqb-true, eqb-false, eq-eqb, ne-eqb, not-true}
 use lib.Dec.{eqb}
 use lib.ListN.{length, getD, take}
 use lib.Seq.{getD-take, length-take-le, take-suc}
-use Rattle.lists.specs.Lists.{range, all, member}
-use Rattle.lists.proofs.Tests.{both, all-at, at-all}
+use Rattle.lists.specs.Lists.{all, member}
+use Rattle.lists.proofs.Tests.{both, all-at, at-all, every-at, at-every}
 use Rattle.lists.proofs.Ranges.{every, each}
 use Rattle.transfers.specs.declared.Transfer.{Transfer}
 use Rattle.transfers.specs.Plan.{transfers, noTransfer}
-use Rattle.ordering.specs.Ordering.{between, at, same, times, stands, onceAt, plannedAt, sentBefore, readyAt, mayRun, Place, MayRun}
+use Rattle.ordering.specs.Ordering.{between, at, same, times, stands, onceIn, plannedIn, sentBefore, readyAt, mayRun, Place, MayRun}
 
 pub same-true : (t u : Transfer) → same t u ≡ true → t ≡ u
 unfolding same
@@ -127,23 +127,16 @@ module _ (dead helpers : List ℕ) (list : List Transfer) where
       go false m = refl
       go true m = at-all (before x) helpers (λ j l. place-stands _ (take x list) (place-front list _ x h (b m j l)))
 
-  abbrev tests : Bool
-  tests = all (onceAt plan list) (range 0 (length plan)) && all (plannedAt plan list) (range 0 (length list)) && all (readyAt dead helpers list) (range 0 (length list))
-
-  tested : mayRun dead helpers list ≡ tests
-  unfolding mayRun
-  tested = refl
-
   pub says : mayRun dead helpers list ≡ true → MayRun dead helpers list
-  unfolding onceAt plannedAt
+  unfolding mayRun onceIn plannedIn at
   says e =
-      let w = both (all (onceAt plan list) (range 0 (length plan)) && all (plannedAt plan list) (range 0 (length list))) _ (sym tested ∙ e) in
-      let v = both (all (onceAt plan list) (range 0 (length plan))) _ (w .0) in
-      let one : (e : ℕ) → e < length plan → times (at plan e) list ≡ 1 = λ e h. eqb-true _ 1 (every (onceAt plan list) (length plan) (v .0) e h) in
+      let w = both (all (onceIn list) plan && all (plannedIn plan) list) _ e in
+      let v = both (all (onceIn list) plan) _ (w .0) in
+      let one : (e : ℕ) → e < length plan → times (at plan e) list ≡ 1 = λ e h. eqb-true _ 1 (every-at (onceIn list) noTransfer plan (v .0) e h) in
       record {
         whole = λ e h. times-place (at plan e) list (λ z. omega (arith, one e h));
         once = λ e x y h k l. times-once (at plan e) list (omega (arith, one e h)) x y k l;
-        planned = λ x h. stands-place (at list x) plan (every (plannedAt plan list) (length list) (v .1) x h);
+        planned = λ x h. stands-place (at list x) plan (every-at (plannedIn plan) noTransfer list (v .1) x h);
         behind = λ x j h m l. ready-behind x h (every (readyAt dead helpers list) (length list) (w .1) x h) m j l;
       }
 
@@ -157,11 +150,10 @@ module _ (dead helpers : List ℕ) (list : List Transfer) where
       → ((x : ℕ) → x < length list → stands (at list x) (transfers dead helpers) ≡ true)
       → ((x : ℕ) → x < length list → readyAt dead helpers list x ≡ true)
       → mayRun dead helpers list ≡ true
-  unfolding onceAt plannedAt
+  unfolding mayRun onceIn plannedIn at
   tests-passed one planned ready =
-      tested
-      ∙ ap₂ _&&_
-      (ap₂ _&&_ (each (onceAt plan list) (length plan) (λ e h. eq-eqb _ 1 (one e h))) (each (plannedAt plan list) (length list) planned))
+      ap₂ _&&_
+      (ap₂ _&&_ (at-every (onceIn list) noTransfer plan (λ e h. eq-eqb _ 1 (one e h))) (at-every (plannedIn plan) noTransfer list planned))
       (each (readyAt dead helpers list) (length list) ready)
 
   pub said : MayRun dead helpers list → mayRun dead helpers list ≡ true

@@ -41,13 +41,13 @@ times t (u ∷ us) = cond (same t u) 1 0 + times t us
 unfoldable pub stands : Transfer → List Transfer → Bool
 stands t list = not (eqb (times t list) 0)
 
--- "every transfer of the plan stands there once": transfer e
-unfoldable pub onceAt : List Transfer → List Transfer → ℕ → Bool
-onceAt plan list e = eqb (times (at plan e) list) 1
+-- a transfer of the plan "stands there once"
+unfoldable pub onceIn : List Transfer → Transfer → Bool
+onceIn list t = eqb (times t list) 1
 
--- "nothing else does": what stands at x is in the plan
-unfoldable pub plannedAt : List Transfer → List Transfer → ℕ → Bool
-plannedAt plan list x = stands (at list x) plan
+-- "nothing else does": a transfer of the list is in the plan
+unfoldable pub plannedIn : List Transfer → Transfer → Bool
+plannedIn plan t = stands t plan
 
 -- node j's message to a node stands before place x
 unfoldable pub sentBefore : List Transfer → ℕ → ℕ → ℕ → Bool
@@ -61,8 +61,8 @@ readyAt dead helpers list x = not (member (at list x .sender) dead) || all (sent
 -- its sender"
 unfoldable pub mayRun : List ℕ → List ℕ → List Transfer → Bool
 mayRun dead helpers list =
-    all (onceAt (transfers dead helpers) list) (range 0 (length (transfers dead helpers)))
-    && all (plannedAt (transfers dead helpers) list) (range 0 (length list))
+    all (onceIn list) (transfers dead helpers)
+    && all (plannedIn (transfers dead helpers)) list
     && all (readyAt dead helpers list) (range 0 (length list))
 
 -- "an odd count of them is 4"

@@ -5,6 +5,7 @@ use Prim.Native.Nat.{ℕ, _+_, _*_, _/_, _-_, _≤_, _<_}
 use native.Mathlib.Omega.{arith}
 use borrow.Author.Tests.{not-true, not-false}
 use lib.ListN.{length, getD, take, set}
+use Rattle.lists.proofs.Tests.{each-more}
 use Rattle.shape.specs.Shape.{mostNodes}
 use Rattle.shape.proofs.Accepted.{Repairable, shape-accepted, repair-accepted}
 use Rattle.transfers.specs.Plan.{transfers, mostTransfers}
@@ -12,7 +13,7 @@ use Rattle.transfers.proofs.Transfers.{transfers-count}
 use Rattle.transfers.proofs.Room.{senders-high, count-high}
 use Rattle.ordering.specs.Ordering.{between, pairs, at}
 use Rattle.ordering.specs.Following.{byList, mayFollow, Sent, Nodes}
-use Rattle.ordering.proofs.Followed.{nodes-low, planned-low, follow-planned, follow-yes, follow-no, length-no, each-more, sent-none, sent-more, table-follow}
+use Rattle.ordering.proofs.Followed.{nodes-low, planned-low, follow-planned, follow-yes, follow-no, length-no, sent-none, sent-more, table-follow}
 use Rattle.ordering.proofs.Promised.{pairs-length, pairs-at}
 use Rattle.ordering.proofs.runs.Statement.{statement}
 use Rattle.ordering.proofs.runs.Tie as tie
