@@ -19,6 +19,7 @@ mod json;
 mod kills;
 #[path = "cli/losses.rs"]
 mod losses;
+mod naive;
 #[path = "cli/names.rs"]
 mod names;
 #[path = "cli/options.rs"]

@@ -157,15 +157,10 @@ impl Place {
 
 /// Some bytes, every value among them where there are enough.
 pub fn bytes(count: usize, seed: u32) -> Vec<u8> {
-    let mut next = generator(seed);
-    (0..count).map(|_| (next() >> 24) as u8).collect()
-}
-
-/// Numbers that follow from a seed; the high bits are the more random ones.
-pub fn generator(seed: u32) -> impl FnMut() -> u32 {
     let mut state = seed;
-    move || {
+    let mut next = || {
         state = state.wrapping_mul(1_664_525).wrapping_add(1_013_904_223);
-        state
-    }
+        (state >> 24) as u8
+    };
+    (0..count).map(|_| next()).collect()
 }

@@ -6,7 +6,10 @@ use std::fs;
 use hmsr::{Repair, Shape};
 
 use crate::json::Json;
-use crate::place::{generator, Place, REPAIRABLE};
+use crate::naive::judge::batch_layers;
+use crate::naive::random::Random;
+use crate::naive::{self, Lists};
+use crate::place::{Place, REPAIRABLE};
 use program::rules::{first_broken, Broken, Rule, Transfer};
 
 /// The program's own module of the rules.
@@ -17,26 +20,20 @@ mod program {
 
 /// A repair, and a list for it.
 struct Case {
-    nodes: usize,
-    dead: Vec<usize>,
-    helpers: Vec<usize>,
+    lists: Lists,
     list: Vec<Transfer>,
 }
 
-/// "Helpers' messages come first, by receiver then sender; then exchanges likewise."
-fn plan(dead: &[usize], helpers: &[usize]) -> Vec<Transfer> {
-    let from = |senders: &[usize]| -> Vec<Transfer> {
-        let pairs = dead.iter().flat_map(|&receiver| senders.iter().map(move |&sender| [sender, receiver]));
-        pairs.filter(|[sender, receiver]| sender != receiver).collect()
-    };
-    [from(helpers), from(dead)].concat()
+/// The naive archive's transfers as the program has them.
+fn pairs(transfers: &[(usize, usize)]) -> Vec<Transfer> {
+    transfers.iter().map(|&(sender, receiver)| [sender, receiver]).collect()
 }
 
 /// What breaks a rule first, by a walk that keeps the transfers it has met, with their places.
 fn walked(case: &Case) -> Option<Broken> {
-    let Case { dead, helpers, list, .. } = case;
+    let Lists { dead, helpers, .. } = &case.lists;
     let mut met = BTreeMap::new();
-    for (place, &[sender, receiver]) in list.iter().enumerate() {
+    for (place, &[sender, receiver]) in case.list.iter().enumerate() {
         let sends = helpers.contains(&sender) || dead.contains(&sender);
         if !sends || !dead.contains(&receiver) || sender == receiver {
             return Some(Broken::At(place, Rule::NotInPlan));
@@ -51,24 +48,20 @@ fn walked(case: &Case) -> Option<Broken> {
         }
         met.insert([sender, receiver], place);
     }
-    let missing: Vec<Transfer> = plan(dead, helpers).into_iter().filter(|pair| !met.contains_key(pair)).collect();
-    if missing.is_empty() {
-        None
-    } else {
-        Some(Broken::Missing(missing))
-    }
+    let mut missing = pairs(&case.lists.transfers());
+    missing.retain(|pair| !met.contains_key(pair));
+    (!missing.is_empty()).then_some(Broken::Missing(missing))
 }
 
 /// What the program finds.
 fn found(case: &Case) -> Option<Broken> {
-    let Case { nodes, dead, helpers, list } = case;
-    let shape = Shape::for_losses(*nodes, helpers.len() - 1, &[dead.len()]).unwrap();
-    let repair = Repair { shape, dead, helpers };
-    match repair.may_run(list.as_flattened()) {
+    let Lists { shape: naive::Shape { n, k, layers }, dead, helpers } = &case.lists;
+    let repair = Repair { shape: Shape { nodes: *n, data: *k, layers: *layers }, dead, helpers };
+    match repair.may_run(case.list.as_flattened()) {
         Ok(()) => None,
         Err(refusal) => {
             assert_eq!(refusal.number(), 13);
-            Some(first_broken(repair, &plan(dead, helpers), list))
+            Some(first_broken(repair, &pairs(&case.lists.transfers()), &case.list))
         }
     }
 }
@@ -98,65 +91,20 @@ fn orders(transfers: &[Transfer]) -> Vec<Vec<Transfer>> {
 
 /// n = 4, k = 1, h = 2, as document 01's plan has them.
 fn every_order() -> Vec<Case> {
-    let (dead, helpers) = (vec![0, 1], vec![2, 3]);
-    let orders = orders(&plan(&dead, &helpers));
-    orders.into_iter().map(|list| Case { nodes: 4, dead: dead.clone(), helpers: helpers.clone(), list }).collect()
+    let lists = Lists { shape: naive::Shape { n: 4, k: 1, layers: 3 }, dead: vec![0, 1], helpers: vec![2, 3] };
+    let orders = orders(&pairs(&lists.transfers()));
+    orders.into_iter().map(|list| Case { lists: lists.clone(), list }).collect()
 }
 
-/// A number below a bound.
-fn below(next: &mut impl FnMut() -> u32, bound: usize) -> usize {
-    (next() >> 8) as usize % bound
-}
-
-fn shuffle<T>(next: &mut impl FnMut() -> u32, items: &mut [T]) {
-    for last in (1..items.len()).rev() {
-        items.swap(last, below(next, last + 1));
-    }
-}
-
-/// A repair of any size, and an order in which its transfers may run: each exchange somewhere behind what it waits for.
-fn random_case(next: &mut impl FnMut() -> u32) -> Case {
-    let nodes = 3 + below(next, 12);
-    let data = 1 + below(next, nodes - 2);
-    let loss = 1 + below(next, nodes - data - 1);
-    let mut all: Vec<usize> = (0..nodes).collect();
-    shuffle(next, &mut all);
-    let [mut dead, mut helpers] = [&all[..loss], &all[loss..loss + data + 1]].map(<[usize]>::to_vec);
-    dead.sort_unstable();
-    helpers.sort_unstable();
-    let mut list = plan(&dead, &helpers);
-    let mut exchanges = list.split_off(loss * (data + 1));
-    shuffle(next, &mut list);
-    shuffle(next, &mut exchanges);
-    for [sender, receiver] in exchanges {
-        let heard = list.iter().rposition(|&[from, to]| helpers.contains(&from) && to == sender).unwrap();
-        list.insert(heard + 1 + below(next, list.len() - heard), [sender, receiver]);
-    }
-    Case { nodes, dead, helpers, list }
-}
-
-/// Takes a transfer away, or puts another in, or moves one.
-fn damage(next: &mut impl FnMut() -> u32, case: &mut Case) {
-    let (one, other) = (below(next, case.list.len()), below(next, case.list.len()));
-    let node = below(next, case.nodes + 2);
-    match below(next, 7) {
-        0 => drop(case.list.remove(one)),
-        1 => case.list.insert(other, case.list[one]),
-        2 => case.list.swap(one, other),
-        3 => case.list[one].reverse(),
-        4 => case.list[one][below(next, 2)] = node,
-        5 => case.list[one][below(next, 2)] += 1 << 32,
-        _ => case.list.truncate(one + 1),
-    }
-}
-
-/// Lists with none to two damages.
-fn damaged(count: usize, seed: u32) -> Vec<Case> {
-    let mut next = generator(seed);
+/// Lists for repairs of any size, with none to two damages.
+fn damaged(count: usize, seed: u64) -> Vec<Case> {
+    let mut random = Random::new(seed);
     let one = |_| {
-        let mut case = random_case(&mut next);
-        (0..below(&mut next, 3)).for_each(|_| damage(&mut next, &mut case));
-        case
+        let mut lists = random.planned();
+        lists.shape.layers = batch_layers(lists.dead.len());
+        let mut order = random.order(&lists);
+        (0..random.below(3)).for_each(|_| random.spoil_order(lists.shape, &mut order));
+        Case { list: pairs(&order), lists }
     };
     (0..count).map(one).collect()
 }
@@ -180,7 +128,7 @@ fn random_lists_are_judged_as_a_walk_does() {
     let mut kinds = [0; 5];
     for case in damaged(5000, 1) {
         let broken = found(&case);
-        assert_eq!(broken, walked(&case), "{:?} {:?} {:?}", case.dead, case.helpers, case.list);
+        assert_eq!(broken, walked(&case), "{:?} {:?}", case.lists, case.list);
         kinds[kind(&broken)] += 1;
     }
     assert!(kinds.iter().all(|&count| count > 300), "{kinds:?}");
@@ -205,9 +153,9 @@ fn the_command_names_what_a_walk_finds() {
     for case in every_order().into_iter().step_by(5).chain(damaged(300, 2)) {
         let lines: String = case.list.iter().map(|[sender, receiver]| format!("{sender} {receiver}\n")).collect();
         fs::write(place.path("list"), lines).unwrap();
-        let [dead, helpers] =
-            [&case.dead, &case.helpers].map(|nodes| nodes.iter().map(usize::to_string).collect::<Vec<_>>().join(","));
-        let line = format!("order --nodes {} --dead {dead} --helpers {helpers} list --json", case.nodes);
+        let [dead, helpers] = [&case.lists.dead, &case.lists.helpers]
+            .map(|nodes| nodes.iter().map(usize::to_string).collect::<Vec<_>>().join(","));
+        let line = format!("order --nodes {} --dead {dead} --helpers {helpers} list --json", case.lists.shape.n);
         let output = place.run(&line);
         let json = Json::read(&String::from_utf8(output.stdout).unwrap());
         let Some(broken) = walked(&case) else {
