@@ -8,7 +8,7 @@ use lib.Arith.{digits-lt}
 use lib.ListN.{getD}
 use Rattle.lists.specs.Lists.{member, position, range, rising}
 use Rattle.lists.proofs.Tables.{is-tabulate, range-length}
-use Rattle.lists.proofs.Members.{at-position, rising-below, rises-rising, range-rises}
+use Rattle.lists.proofs.Members.{at-position, rising-below, range-rising}
 use Rattle.column.specs.Column.{completed, Completion}
 use Rattle.column.proofs.Column.{completed-is}
 use Rattle.shape.specs.declared.Shape.{Shape}
@@ -40,7 +40,7 @@ module _ (s : Shape) (nodes : List ℕ) (accepted : checkRefusal narrow s nodes 
 
   -- nodes 0 to k-1 are listed
   up : rising 0 (s .n) (range 0 (s .k)) ≡ true
-  up = rises-rising 0 (s .n) (range 0 (s .k)) (range-rises 0 (s .n) (s .k) (omega (arith, able .shaped .k-high)))
+  up = range-rising (s .n) (s .k) (omega (arith, able .shaped .k-high))
 
   pub checkable-fillable : Fillable (s .n) (size s) (range 0 (s .k)) nodes
   unfolding listedAt

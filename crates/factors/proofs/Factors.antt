@@ -50,7 +50,7 @@ module _ (c : Code) (s : Shape) (list : List ℕ) (good : GoodCode c (s .n)) (up
     ps-up : rising 0 (length (points c (s .n) a)) list ≡ true
     ps-up = rw ps-length up
 
-    factor-listed : member i list ≡ true → (j : ℕ) → factor c (s .n) list a i j ≡ unit (position i list) j
+    pub factor-listed : member i list ≡ true → (j : ℕ) → factor c (s .n) list a i j ≡ unit (position i list) j
     unfolding factor
     factor-listed m j = cond-true _ _ (member i list) m
 
@@ -58,14 +58,14 @@ module _ (c : Code) (s : Shape) (list : List ℕ) (good : GoodCode c (s .n)) (up
     unfolding factor
     factor-missing m j = cond-false _ _ (member i list) m
 
-    factor-small : (j : ℕ) → factor c (s .n) list a i j < c .modulus
+    pub factor-small : (j : ℕ) → factor c (s .n) list a i j < c .modulus
     factor-small j = go (member i list) refl
       where
         go : (b : Bool) → member i list ≡ b → factor c (s .n) list a i j < q
         go true m = rw (factor-listed m j) (unit-small q (position i list) j (good .prime .big))
         go false m = rw (factor-missing m j) (unfold multiplier in mod-lt _ o)
 
-    entry-sum : (values : ℕ → ℕ) → ((j : ℕ) → j < length list → values j < c .modulus)
+    pub entry-sum : (values : ℕ → ℕ) → ((j : ℕ) → j < length list → values j < c .modulus)
         → getD (completed q (points c (s .n) a) list values) i 0 ≡ sum (length list) (λ j. factor c (s .n) list a i j * values j) % q
     entry-sum values small = go (member i list) refl
       where

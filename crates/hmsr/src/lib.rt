@@ -20,6 +20,7 @@ ghost use Rattle.card.specs.Promises.{Packs};
 ghost use Rattle.plan.specs.Promises.{Plans};
 ghost use Rattle.choosing.specs.Promises.{Chooses};
 ghost use Rattle.ordering.specs.Promises.{Orders};
+ghost use Rattle.correcting.specs.Promises.{Corrects};
 ghost use Rattle.returned.specs.Promises.{Returned, shapeOf, headerFrom, checkReturned, packReturned, planReturned, layersReturned, UnpackReturned};
 
 // What check, pack, plan and layers find is returned behind the numbers below this one, which are refusals'.
@@ -240,4 +241,21 @@ pub extern "C" fn hmsr_may_run(
 {
     let s = Shape { n, k, layers };
     answer_number(ordering::may_run(s, dead, helpers, pairs))
+}
+
+// One byte of a transcript of `length` bytes corrected by a change, in all n nodes (document 02 §10).
+#[no_mangle]
+pub extern "C" fn hmsr_correct(
+    n: usize,
+    k: usize,
+    layers: usize,
+    nodes: &mut [u16],
+    length: usize,
+    byte: usize,
+    change: i64,
+) -> usize
+    ensures { λ r. ⌜ Returned answerNumber (Corrects (shapeOf n k layers) length byte change (now (nodes .entry)) (now (nodes .exit))) r ⌝ }
+{
+    let s = Shape { n, k, layers };
+    answer_number(correcting::correct(s, nodes, length, byte, change))
 }

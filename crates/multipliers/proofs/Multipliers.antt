@@ -13,7 +13,7 @@ use lib.ListN.{length, getD}
 use borrow.Author.Tests.{eq-eqb, ne-eqb, eqb-false}
 use Rattle.lists.specs.Lists.{member, position, others, rising}
 use Rattle.lists.specs.Sums.{sum, sumOver}
-use Rattle.lists.proofs.Members.{member-of, at-position, rises-position}
+use Rattle.lists.proofs.Members.{member-of, at-position, rises-position, rising-below}
 use Rattle.lists.proofs.Sums.{sum-suc, sum-only, sum-add, sum-ext, sum-const, sum-tests, over-sum}
 use Rattle.lists.proofs.Others.{others-rise, others-length, others-at, others-member, sum-split}
 use Rattle.field.specs.Residues.{Prime, minus, inverse}
@@ -203,26 +203,28 @@ module _ (q : ℕ) (prime : Prime q) (ps : List ℕ) (points : Points q ps) (lis
           next-is (P e) m g ∙ ap (λ u. r (D (P e) m) ⊗ (r (P e) ⊖ r (P u))) (sym d) ∙ ap (λ u. r (D (P e) m) ⊗ u) (self _) ∙ mul-zero (R q prime) _
       go false g (no d) ih = next-is (P e) m g ∙ ap (λ u. u ⊗ (r (P e) ⊖ r (P m))) (ih (omega arith)) ∙ zero-mul (R q prime) _
 
-  pub lasts : (m : ℕ) → m ≤ length ps → r (D (P i) m) ≢ 𝟘
-  lasts zero h = λ e. K .one-ne-zero (one-is q o ∙ sym (ap r (differences-none q ps list i (P i))) ∙ e)
-  lasts (suc m) h = go (leftOut list i m) refl (lasts m (omega arith))
+  apart : (x y : Residue q) → x ⊖ y ≡ 𝟘 → x ≡ y
+  apart x y e = whole ∙ ap (λ u. u ⊕ y) e ∙ end
     where
-      apart : (x y : Residue q) → x ⊖ y ≡ 𝟘 → x ≡ y
-      apart x y e = whole ∙ ap (λ u. u ⊕ y) e ∙ end
-        where
-          whole : x ≡ x ⊖ y ⊕ y
-          whole = simp ring
+      whole : x ≡ x ⊖ y ⊕ y
+      whole = simp ring
 
-          end : 𝟘 ⊕ y ≡ y
-          end = simp ring
+      end : 𝟘 ⊕ y ≡ y
+      end = simp ring
 
-      go : (b : Bool) → leftOut list i m ≡ b → r (D (P i) m) ≢ 𝟘 → r (D (P i) (suc m)) ≢ 𝟘
-      go true g ih e = ih (sym (ap r (differences-left q ps list i (P i) m g)) ∙ e)
-      go false g ih e =
+  lasts-at : (e : ℕ) → e < length ps → ((m : ℕ) → leftOut list i m ≡ false → m ≢ e) → (m : ℕ) → m ≤ length ps → r (D (P e) m) ≢ 𝟘
+  lasts-at e l other zero h = λ z. K .one-ne-zero (one-is q o ∙ sym (ap r (differences-none q ps list i (P e))) ∙ z)
+  lasts-at e l other (suc m) h = go (leftOut list i m) refl (lasts-at e l other m (omega arith))
+    where
+      go : (b : Bool) → leftOut list i m ≡ b → r (D (P e) m) ≢ 𝟘 → r (D (P e) (suc m)) ≢ 𝟘
+      go true g ih z = ih (sym (ap r (differences-left q ps list i (P e) m g)) ∙ z)
+      go false g ih z =
           mul-ne-zero K _ _ ih
-          (λ s. left-none list i m g .1
-          (sym (points .apart i m within (omega arith) (res-inj q prime _ _ (points .below i within) (points .below m (omega arith)) (apart _ _ s)))))
-          (sym (next-is (P i) m g) ∙ e)
+          (λ s. other m g (sym (points .apart e m l (omega arith) (res-inj q prime _ _ (points .below e l) (points .below m (omega arith)) (apart _ _ s)))))
+          (sym (next-is (P e) m g) ∙ z)
+
+  pub lasts : (m : ℕ) → m ≤ length ps → r (D (P i) m) ≢ 𝟘
+  lasts = lasts-at i within (λ m g. left-none list i m g .1)
 
   -- the divisor is not 0
   pub divisor-nonzero : differences q ps list i (getD ps i 0) (length ps) ≢ 0
@@ -347,6 +349,20 @@ module _ (q : ℕ) (prime : Prime q) (ps : List ℕ) (points : Points q ps) (lis
   pub multiplier-small : (j : ℕ) → multiplier q ps list i j < q
   unfolding multiplier
   multiplier-small j = mod-lt _ o
+
+  -- none is 0
+  pub multiplier-nonzero : (j : ℕ) → j < length list → multiplier q ps list i j ≢ 0
+  multiplier-nonzero j h z =
+      mul-ne-zero K _ _ (λ e. numerator (sym (apart 𝟘 _ e))) (λ e. K .one-ne-zero (sym (K .mul-inv _ bottom) ∙ ap (λ u. r (D (P i) n) ⊗ u) e ∙ mul-zero (R q prime) _))
+      (sym (multiplier-is j) ∙ ap r z ∙ sym (zero-is q o))
+    where
+      bottom : r (D (P i) n) ≢ 𝟘
+      bottom = lasts n (omega arith)
+
+      numerator : r (D (P (getD list j 0)) n) ≢ 𝟘
+      numerator =
+          lasts-at (getD list j 0) (rising-below n list up j h)
+          (λ m g e. true≢false (sym (member-of list j h) ∙ ap (λ u. member u list) (sym e) ∙ left-none list i m g .0)) n (omega arith)
 
   pub multiplier-only : (f : ℕ → ℕ)
       → ((values : ℕ → ℕ) → ((j : ℕ) → j < length list → values j < q) → getD (completed q ps list values) i 0 ≡ sum (length list) (λ j. f j * values j) % q)

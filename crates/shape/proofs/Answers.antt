@@ -6,7 +6,7 @@ use Prim.Native.Nat.{ℕ, zero, suc, _<_}
 use native.Mathlib.Omega.{arith}
 use lib.Dec.{eqb}
 use Rattle.shape.specs.declared.Refusal.{Refusal}
-use Rattle.shape.specs.declared.Refusal.the-variants.{BadShape, BadNodes, PartBatch, WrongLength, BadSymbol, Malformed, NoTranscript, NoLayers, BadOrder}
+use Rattle.shape.specs.declared.Refusal.the-variants.{BadShape, BadNodes, PartBatch, WrongLength, BadSymbol, Malformed, NoTranscript, PastEnd, NoLayers, BadChange, BadOrder}
 use Rattle.shape.specs.declared.Answer.{Answer}
 use Rattle.shape.specs.declared.Answer.the-variants.{Done, Refused}
 use Rattle.shape.specs.Refusals.{numberOf, answerNumber, afterwards}
@@ -19,7 +19,9 @@ number-positive WrongLength = omega arith
 number-positive BadSymbol = omega arith
 number-positive Malformed = omega arith
 number-positive NoTranscript = omega arith
+number-positive PastEnd = omega arith
 number-positive NoLayers = omega arith
+number-positive BadChange = omega arith
 number-positive BadOrder = omega arith
 
 -- the answer that a number is of
@@ -32,8 +34,10 @@ answerOf n =
     (cond (eqb n 5) (Refused BadSymbol)
     (cond (eqb n 6) (Refused Malformed)
     (cond (eqb n 7) (Refused NoTranscript)
+    (cond (eqb n 9) (Refused PastEnd)
     (cond (eqb n 11) (Refused NoLayers)
-    (cond (eqb n 13) (Refused BadOrder) Done))))))))
+    (cond (eqb n 12) (Refused BadChange)
+    (cond (eqb n 13) (Refused BadOrder) Done))))))))))
 
 answer-of : (answer : Answer) → answerOf (answerNumber answer) ≡ answer
 unfolding answerOf
@@ -45,7 +49,9 @@ answer-of (Refused WrongLength) = refl
 answer-of (Refused BadSymbol) = refl
 answer-of (Refused Malformed) = refl
 answer-of (Refused NoTranscript) = refl
+answer-of (Refused PastEnd) = refl
 answer-of (Refused NoLayers) = refl
+answer-of (Refused BadChange) = refl
 answer-of (Refused BadOrder) = refl
 
 -- no two answers have one number

@@ -13,7 +13,7 @@ use Rattle.lists.proofs.Members.{rising-below}
 use Rattle.lists.proofs.Writing.{Writing, writing-all, writing-room}
 use Rattle.shape.specs.declared.Shape.{Shape}
 use Rattle.shape.specs.declared.Refusal.{Refusal}
-use Rattle.shape.specs.declared.Refusal.the-variants.{BadShape, BadNodes, PartBatch, WrongLength, BadSymbol, Malformed, NoTranscript, NoLayers, BadOrder}
+use Rattle.shape.specs.declared.Refusal.the-variants.{BadShape, BadNodes, PartBatch, WrongLength, BadSymbol, Malformed, NoTranscript, PastEnd, NoLayers, BadChange, BadOrder}
 use Rattle.shape.specs.Shape.{mostNodes, size, within}
 use Rattle.shape.specs.Refusals.{numberOf, refuse, shapeBad, repairBad, layersBad}
 use Rattle.shape.proofs.Accepted.{passed, Shaped, shape-accepted, Repairable, repair-accepted, mostSize}
@@ -186,7 +186,9 @@ number-small WrongLength = omega arith
 number-small BadSymbol = omega arith
 number-small Malformed = omega arith
 number-small NoTranscript = omega arith
+number-small PastEnd = omega arith
 number-small NoLayers = omega arith
+number-small BadChange = omega arith
 number-small BadOrder = omega arith
 
 refuse-small : (cause : Bool) (number rest : ℕ) → number < 10 → rest < 10 → refuse cause number rest < 10
