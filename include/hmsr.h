@@ -11,8 +11,8 @@
  * other calls less than 16 KB, whatever N and the lengths of lists are.
  *
  * A call returns 0 where it did its work, and otherwise the number of the first cause for which it turned back, except where its
- * comment says so. The causes are judged in the order 1, 2, 11, 3, 4, 13, 5, 7; cards and the plan have orders of their own. Where a
- * call turned back, every buffer is as it was.
+ * comment says so. The causes are judged in the order 1, 2, 11, 3, 4, 9, 13, 5, 12, 7; cards and the plan have orders of their own. Where
+ * a call turned back, every buffer is as it was.
  *
  * From top to bottom: the version, the refusals and their texts, the sizes of buffers, and the calls. The calls are the library's; the
  * functions before them are C for C99 or later, or C++.
@@ -33,7 +33,7 @@ extern "C" {
 #define HMSR_VERSION_PATCH 0
 
 /* The refusals, that is, the causes for which calls turn back. The comments of the calls name them by their numbers. There is
- * no 8, 9, 10 or 12. */
+ * no 8 or 10. */
 
 /* n outside 3 to 14, k outside 1 to n-2, or layers outside 1 to 15. */
 #define HMSR_BAD_SHAPE 1
@@ -48,7 +48,7 @@ extern "C" {
 /* A buffer not of the exact length, an odd count of numbers in a list of pairs, or, outside cards, a transcript length above k * N. */
 #define HMSR_WRONG_LENGTH 4
 
-/* A symbol handed in is above 256 (hmsr_repair looks at the helpers' symbols only). */
+/* A symbol handed in is above 256 (hmsr_repair looks at the helpers' symbols only, hmsr_correct at those of the byte's place). */
 #define HMSR_BAD_SYMBOL 5
 
 /* A card, or the input of a plan, malformed; in cards also a transcript length above k * N, or a hearing number above 999999. */
@@ -57,8 +57,14 @@ extern "C" {
 /* Opening: the symbols are not those of a transcript of that length. */
 #define HMSR_NO_TRANSCRIPT 7
 
+/* Correcting: the byte's number is not below the transcript's length. */
+#define HMSR_PAST_END 9
+
 /* Choosing layers: no number of layers up to 15 serves every loss in the list. */
 #define HMSR_NO_LAYERS 11
+
+/* Correcting: the change is outside -255 to 255, or the data symbol plus the change outside 0 to 255. */
+#define HMSR_BAD_CHANGE 12
 
 /* Transfers that may not run in the order of their list: they are not those of the plan, each once, or an exchange comes before a message
  * to its sender. */
@@ -75,7 +81,9 @@ static inline const char *hmsr_refusal_text(size_t number) {
     case HMSR_BAD_SYMBOL: return "a symbol is above 256";
     case HMSR_MALFORMED: return "the card or the input is malformed";
     case HMSR_NO_TRANSCRIPT: return "the symbols are not those of a transcript of that length";
+    case HMSR_PAST_END: return "the byte's number is not below the transcript's length";
     case HMSR_NO_LAYERS: return "no number of layers from 1 to 15 serves every loss in the list";
+    case HMSR_BAD_CHANGE: return "the change is not from -255 to 255, or makes no byte of the data symbol";
     case HMSR_BAD_ORDER: return "the transfers are not those of the plan, each once, or one comes before what it waits for";
     default: return "not the number of a refusal";
     }
@@ -152,6 +160,15 @@ size_t hmsr_open(size_t n, size_t k, size_t layers,
                  const uint16_t *symbols, size_t symbols_length,
                  size_t length,
                  uint8_t *transcript, size_t transcript_length);
+
+/* Corrects byte number `byte` of a transcript of `length` bytes in n * N symbols, by a change from -255 to 255. At the byte's place,
+ * byte % N, its own symbol, on node byte / N, changes by the change, and that of each check node, k to n-1, by the change times a factor,
+ * modulo 257; all other symbols stay. Where the nodes are what hmsr_write makes of `length` bytes, they are then what it makes of the
+ * corrected ones. The time does not depend on N. Turns back with 1, 4, 9, 5, 12, judged in this order; 5 looks at the symbols of the
+ * byte's place alone. */
+size_t hmsr_correct(size_t n, size_t k, size_t layers,
+                    uint16_t *nodes, size_t nodes_length,
+                    size_t length, size_t byte, int64_t change);
 
 /* The repair of h dead nodes by k+1 helpers. A message has N/(h+1) symbols. */
 

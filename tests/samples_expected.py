@@ -1,7 +1,8 @@
 #!/usr/bin/env python3
 """What rust/tests/stored.rs must make of the samples of document 01 ("Samples on both edges"), its numbers written down,
 of a card with a hearing number (document 02 §9), worked out by hand, of lists of losses (document 02 §6), by its
-sentences and by hand, and of orders of document 01's plan (document 02 §12), by hand.
+sentences and by hand, and of orders of document 01's plan (document 02 §12) and corrections of its first archive (§10), by
+hand.
 
     python3 tests/samples_expected.py > tests/stored/samples.txt
 
@@ -57,3 +58,17 @@ show(267, 11)
 show(0, 0, 13)
 # the plan without its last pair, with 2 0 once more behind it, with 9 0 behind it, with one number behind it; the empty list
 show(13, 13, 13, 4, 13)
+# n=3, k=1, L=1 (document 02 §10). A data symbol 1 of node 0 at place 0, whose points are 1, 3 and 9, has 170 and 86 beside it:
+# 1 + 170 + 86 = 257 and 1 + 3 * 170 + 9 * 86 = 5 * 257. So a byte 0 corrected by 1, of an archive of zeros, leaves the factors
+show(0, 1, *[0] * 7, 170, *[0] * 7, 86, *[0] * 7)
+# by 255, which is 2 below 257: 2 * 257 - 2 * 170 and 257 - 2 * 86; and back by -255
+show(0, 255, *[0] * 7, 174, *[0] * 7, 85, *[0] * 7)
+show(0, *[0] * 24)
+# the archive of bytes 3 6, byte 1 corrected by -3: that of bytes 3 3. At place 1, where the points are 256, 3 and 9, 3 has 252 and 2
+# beside it: 3 + 252 + 2 = 257 and 256 * 3 + 3 * 252 + 9 * 2 = 6 * 257
+show(0, 3, 3, *ZEROS, 253, 252, *ZEROS, 1, 2, *ZEROS)
+# refused: the first archive's byte 2 of 2; byte 1 by -7, by 250, by -256 and by 256; with 257 at its place, which comes before the
+# change, and past the end, which comes before that
+show(9, 12, 12, 12, 12, 5, 9)
+# a data symbol 256 at place 0: by -1 it is 255, by 0 and by -256 it is refused
+show(0, 12, 12)

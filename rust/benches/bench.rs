@@ -4,14 +4,14 @@
 //! the call over its time: k × N bytes where the call works on the whole archive, N where it works on one node.
 //! "ratio" is the naive implementation's time over the library's. All calls are measured in five rounds, one behind the
 //! other, and each number is the median of its five. Below stand the whole repairs once more: what they put on the new
-//! drives, and the bytes that they send.
+//! drives, and the bytes that they send; and the corrections of one byte, beside writing the archive afresh.
 
 #[path = "../tests/naive/mod.rs"]
 mod naive;
 
 use hmsr::{Refusal, Repair, Shape};
 use naive::random::Random;
-use naive::Lists;
+use naive::{Correction, Lists};
 use std::hint::black_box;
 use std::time::{Duration, Instant};
 
@@ -26,6 +26,9 @@ const LOSS_COUNTS: [usize; 2] = [12, 1_000_000];
 const ORDERED: [(usize, usize, usize, usize); 2] = [(14, 1, 13, 12), (12, 6, 15, 3)];
 /// The numbers of a list that is no plan's.
 const LONG_LIST: usize = 1_000_000;
+/// The names of two calls that are put beside one another.
+const WRITE: &str = "write";
+const CORRECT: &str = "correct";
 const ROUNDS: usize = 5;
 
 /// A line of a round goes on until it has so many runs of each side, or else the least number and this time.
@@ -65,6 +68,13 @@ impl Line {
         let rate = self.symbols as f64 / median(self.library.clone()) / 1e6;
         println!("{:<36}{rate:>12.2}{:>12}", self.name, self.sent);
     }
+
+    /// The time of one correction, and that of writing the same archive over it, round by round.
+    fn print_correction(&self, written: &Line) {
+        let time = 1e9 * median(self.library.clone());
+        let ratio = median(self.library.iter().zip(&written.library).map(|(correct, write)| write / correct).collect());
+        println!("{:<36}{time:>12.2}{ratio:>12.0}", self.name);
+    }
 }
 
 /// The lines measured so far, in the order of a round.
@@ -93,11 +103,24 @@ impl Table {
         self.lines.iter_mut().filter(|line| line.name == name).for_each(|line| line.sent = bytes);
     }
 
+    /// The lines of corrections, each with that of writing the same archive.
+    fn corrections(&self) -> impl Iterator<Item = (&Line, &Line)> {
+        let of = |name: String| self.lines.iter().find(move |line| line.name == name);
+        self.lines.iter().filter_map(move |line| {
+            let shape = line.name.strip_suffix(CORRECT)?;
+            of(format!("{shape}{WRITE}")).map(|written| (line, written))
+        })
+    }
+
     fn print(&self) {
         println!("{:<36}{:>12}{:>12}{:>14}{:>9}", "(n, k, L) call", "ns/symbol", "MB/s", "naive ns/sym", "ratio");
         self.lines.iter().for_each(Line::print);
         println!("{:<36}{:>12}{:>12}", "whole repairs", "drives MB/s", "line bytes");
         self.lines.iter().filter(|line| line.sent != 0).for_each(Line::print_repair);
+        println!("{:<36}{:>12}{:>12}", "corrections", "ns", "write ratio");
+        for (correct, write) in self.corrections() {
+            correct.print_correction(write);
+        }
         let slower: Vec<String> =
             self.lines.iter().filter(|line| line.ratio() < 1.0).map(|line| line.name.clone()).collect();
         println!("Ratio below 1: {}.", if slower.is_empty() { "none".to_string() } else { slower.join(", ") });
@@ -174,7 +197,7 @@ fn bench_code(table: &mut Table, written: &Written) {
     let symbols = &nodes[all - capacity..];
     let mut out = vec![0; all];
     table.line(
-        written.name("write"),
+        written.name(WRITE),
         all,
         capacity,
         || shape.write(black_box(transcript), &mut out).unwrap(),
@@ -207,6 +230,30 @@ fn bench_code(table: &mut Table, written: &Written) {
         );
         assert_eq!(&bytes, transcript);
     }
+}
+
+/// A "symbol" of a correction is one that it gives another value; no transcript is behind it. The archive's last byte is
+/// changed and changed back by turns. Of the naive implementation the copy of all nodes is left out, which it would return.
+fn bench_correct(table: &mut Table, written: &Written) {
+    let Written { shape, plain, transcript, nodes } = written;
+    let (length, byte) = (transcript.len(), transcript.len() - 1);
+    let change = if transcript[byte] < 128 { 1 } else { -1 };
+    let mut correction = Correction { shape: *plain, nodes: nodes.clone(), length, byte, change };
+    let (mut all, mut turn) = (nodes.clone(), change);
+    table.line(
+        written.name(CORRECT),
+        plain.equations() + 1,
+        0,
+        || {
+            shape.correct(black_box(&mut all), length, byte, turn).unwrap();
+            turn = -turn;
+        },
+        || naive::correct::changes(black_box(&correction)).unwrap(),
+    );
+    if turn != change {
+        correction.nodes = naive::correct(&correction).unwrap();
+    }
+    assert_eq!(all, correction.nodes);
 }
 
 /// The dead are every other node from 1 on, the helpers the first others.
@@ -382,6 +429,7 @@ fn bench_orders(table: &mut Table) {
 fn bench_shape(table: &mut Table, shape: (usize, usize, usize), dead_counts: &[usize]) {
     let written = Written::new(shape);
     bench_code(table, &written);
+    bench_correct(table, &written);
     for choice in dead_counts.iter().filter_map(|&h| Choice::new(written.plain, h)) {
         bench_repair(table, &written, &choice);
         bench_plan(table, &written, &choice);

@@ -1,4 +1,4 @@
-//! Writing a transcript, checking all nodes, and restoring or opening from any k of them.
+//! Writing a transcript, checking all nodes, restoring or opening from any k of them, and correcting one byte.
 use crate::ffi;
 use crate::refusal::{answer, found};
 use crate::{Refusal, Shape};
@@ -165,5 +165,42 @@ impl Shape {
         let mut transcript = vec![0; room];
         self.open(list, symbols, length, &mut transcript)?;
         Ok(transcript)
+    }
+
+    /// Corrects one byte of a transcript of that length in all nodes (nodes × N symbols): the byte's own symbol and one
+    /// symbol of each check node, data to nodes - 1, whatever N is. Where the nodes are what writing the transcript
+    /// gives, they are then what writing the corrected one gives. All other symbols stay, and are not looked at but
+    /// for those that stand at the byte's place.
+    ///
+    /// ```
+    /// use hmsr::{Refusal, Shape};
+    /// let shape = Shape::new(3, 1, 2)?;
+    /// let mut nodes = shape.write_to_nodes(b"he said na")?;
+    /// shape.correct(&mut nodes, 10, 9, i64::from(b'o') - i64::from(b'a'))?;
+    /// assert_eq!(nodes, shape.write_to_nodes(b"he said no")?);
+    /// assert_eq!(shape.correct(&mut nodes, 10, 10, 1), Err(Refusal::PastEnd));
+    /// assert_eq!(shape.correct(&mut nodes, 10, 9, -256), Err(Refusal::BadChange));
+    /// # Ok::<(), hmsr::Refusal>(())
+    /// ```
+    ///
+    /// # Errors
+    ///
+    /// [`Refusal::BadShape`]; [`Refusal::WrongLength`] for the nodes, or for a length above data × N;
+    /// [`Refusal::PastEnd`]; [`Refusal::BadSymbol`] at the byte's place; [`Refusal::BadChange`]. Judged in this order.
+    pub fn correct(&self, nodes: &mut [u16], length: usize, byte: usize, change: i64) -> Result<(), Refusal> {
+        answer(ffi::correct(*self, nodes, length, byte, change))
+    }
+
+    /// All nodes with that byte corrected, in a new buffer.
+    ///
+    /// # Errors
+    ///
+    /// As [`Shape::correct`].
+    pub fn correct_to_nodes(
+        &self, nodes: &[u16], length: usize, byte: usize, change: i64,
+    ) -> Result<Vec<u16>, Refusal> {
+        let mut corrected = nodes.to_vec();
+        self.correct(&mut corrected, length, byte, change)?;
+        Ok(corrected)
     }
 }

@@ -19,6 +19,9 @@ extern "C" {
         n: usize, k: usize, layers: usize, list: *const usize, list_len: usize, symbols: *const u16,
         symbols_len: usize, length: usize, transcript: *mut u8, transcript_len: usize,
     ) -> usize;
+    fn hmsr_correct(
+        n: usize, k: usize, layers: usize, nodes: *mut u16, nodes_len: usize, length: usize, byte: usize, change: i64,
+    ) -> usize;
     fn hmsr_helper_message(
         n: usize, k: usize, layers: usize, dead: *const usize, dead_len: usize, helpers: *const usize,
         helpers_len: usize, helper: usize, new_node: usize, symbols: *const u16, symbols_len: usize, message: *mut u16,
@@ -98,6 +101,11 @@ pub(crate) fn open(s: Shape, list: &[usize], symbols: &[u16], length: usize, tra
             transcript.len(),
         )
     }
+}
+
+pub(crate) fn correct(s: Shape, nodes: &mut [u16], length: usize, byte: usize, change: i64) -> usize {
+    // SAFETY: see the top of this file.
+    unsafe { hmsr_correct(s.nodes, s.data, s.layers, nodes.as_mut_ptr(), nodes.len(), length, byte, change) }
 }
 
 pub(crate) fn helper_message(r: Repair, helper: usize, new_node: usize, symbols: &[u16], message: &mut [u16]) -> usize {

@@ -20,8 +20,12 @@ pub enum Refusal {
     Malformed = 6,
     /// The symbols are not those of a transcript of that length.
     NoTranscript = 7,
+    /// The byte's number is not below the transcript's length.
+    PastEnd = 9,
     /// No number of layers up to 15 serves every loss in the list.
     NoLayers = 11,
+    /// The change is outside −255 to 255, or the data symbol plus the change outside 0 to 255.
+    BadChange = 12,
     /// The transfers may not run in the order of their list: they are not those of the plan, each once, or an exchange
     /// comes before a message to its sender.
     BadOrder = 13,
@@ -29,7 +33,7 @@ pub enum Refusal {
 
 impl Refusal {
     /// All causes, by their numbers.
-    pub const ALL: [Refusal; 9] = [
+    pub const ALL: [Refusal; 11] = [
         Refusal::BadShape,
         Refusal::BadNodes,
         Refusal::PartBatch,
@@ -37,11 +41,13 @@ impl Refusal {
         Refusal::BadSymbol,
         Refusal::Malformed,
         Refusal::NoTranscript,
+        Refusal::PastEnd,
         Refusal::NoLayers,
+        Refusal::BadChange,
         Refusal::BadOrder,
     ];
 
-    /// The cause's number: 1 to 7, 11 or 13.
+    /// The cause's number: 1 to 7, 9, or 11 to 13.
     ///
     /// ```
     /// assert_eq!(hmsr::Refusal::PartBatch.number(), 3);
@@ -77,7 +83,9 @@ impl fmt::Display for Refusal {
             Refusal::BadSymbol => "a symbol is above 256",
             Refusal::Malformed => "the card or the input is malformed",
             Refusal::NoTranscript => "the symbols are not those of a transcript of that length",
+            Refusal::PastEnd => "the byte's number is not below the transcript's length",
             Refusal::NoLayers => "no number of layers from 1 to 15 serves every loss in the list",
+            Refusal::BadChange => "the change is not from -255 to 255, or makes no byte of the data symbol",
             Refusal::BadOrder => {
                 "the transfers are not those of the plan, each once, or one comes before what it waits for"
             }

@@ -7,6 +7,10 @@ use std::os::unix::fs::{symlink, PermissionsExt};
 mod arguments;
 #[path = "cli/choice.rs"]
 mod choice;
+#[path = "cli/correct.rs"]
+mod correct;
+#[path = "cli/cut_off.rs"]
+mod cut_off;
 #[path = "cli/faults.rs"]
 mod faults;
 #[path = "cli/files.rs"]
@@ -291,9 +295,12 @@ fn a_place_without_cards_is_refused() {
         ("check bare", LOST, "bare holds no cards"),
         ("open bare opened", LOST, "bare holds no cards"),
         ("repair bare", LOST, "bare holds no cards"),
+        ("correct bare --at 0 --from 0 --to 1", LOST, "bare holds no cards"),
         ("check nothing", IO, "cannot read the directory nothing"),
         ("open nothing opened", IO, "cannot read the directory nothing"),
         ("repair transcript", IO, "cannot read the directory transcript"),
+        ("correct nothing --at 0 --from 0 --to 1", IO, "cannot read the directory nothing"),
+        ("correct transcript --at 0 --from 0 --to 1", IO, "cannot read the directory transcript"),
         ("info nothing", IO, "nothing is not a readable card"),
         ("info drives", IO, "not a file"),
         ("info transcript", LOST, "transcript is not a readable card"),

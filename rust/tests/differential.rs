@@ -9,7 +9,7 @@ mod naive;
 
 use naive::judge::batch_layers;
 use naive::random::{codeword_of, Random};
-use naive::{Header, Lists, Number, Shape};
+use naive::{Correction, Header, Lists, Number, Shape};
 
 /// n × N of most inputs, but one layer is always allowed.
 const MOST_SYMBOLS: usize = 3000;
@@ -668,7 +668,20 @@ fn may_run() {
     });
 }
 
-/// The ends of the range of shapes, with fifteen layers: written, checked, restored, opened, repaired, packed.
+/// A byte anywhere, in nodes that hold anything but at its place; then wrong in up to two ways.
+#[test]
+fn correct() {
+    try_cases(20000, &[0, 1, 4, 5, 9, 12], |random| {
+        let shape = random_shape(random);
+        let mut correction = random.correction(shape);
+        for _ in 0..random.below(3) {
+            random.spoil_correction(shape, &mut correction);
+        }
+        compare::correct(&correction)
+    });
+}
+
+/// The ends of the range of shapes, with fifteen layers: written, checked, restored, opened, corrected, repaired, packed.
 #[test]
 fn largest_shapes() {
     let mut random = Random::new(1);
@@ -683,6 +696,11 @@ fn largest_shapes() {
         let symbols = symbols_of(shape, &nodes, &list);
         assert_eq!(compare::restore(&mut random, shape, &list, &symbols, all), 0);
         assert_eq!(compare::open(&mut random, shape, &list, &symbols, transcript.len(), transcript.len()), 0);
+        for (byte, length) in [(0, 1), (size - 1, size), (shape.capacity() - 1, shape.capacity())] {
+            let change = i64::from(random.bytes(1)[0]) - i64::from(transcript[byte]);
+            let correction = Correction { shape, nodes: nodes.clone(), length, byte, change };
+            assert_eq!(compare::correct(&correction), 0);
+        }
         let dead = random.nodes(shape, dead_count);
         let living: Vec<usize> = (0..n).filter(|node| !dead.contains(node)).collect();
         let helpers = random.some_of(&living, k + 1);

@@ -1,5 +1,5 @@
-//! Random and mutated cards, what is packed into them, plan inputs, lists of losses, and orders of transfers, library
-//! beside naive implementation, for as many seconds each as the environment's HMSR_FUZZ_SECONDS says (3 if it says
+//! Random and mutated cards, what is packed into them, plan inputs, lists of losses, orders of transfers, and corrections,
+//! library beside naive implementation, for as many seconds each as the environment's HMSR_FUZZ_SECONDS says (3 if it says
 //! nothing). HMSR_SEED=.. makes another series of inputs.
 
 #[path = "naive/compare.rs"]
@@ -8,7 +8,7 @@ mod naive;
 
 use naive::card::starts_with_1;
 use naive::random::Random;
-use naive::{Header, Lists, Shape};
+use naive::{Correction, Header, Lists, Shape};
 use std::fmt::Debug;
 use std::time::{Duration, Instant};
 
@@ -277,6 +277,51 @@ fn listed(random: &mut Random) -> Listed {
 fn orders() {
     let tally = fuzz(listed, |_, input| compare::may_run(&input.lists, &input.numbers));
     for number in [0, 1, 2, 3, 4, 13] {
+        assert!(tally[number] > 0, "number {number} never came up");
+    }
+}
+
+/// A change of the kind that matters: around the range, one bit away from it, or any.
+fn change(random: &mut Random) -> i64 {
+    let near = random.between(0, 600) as i64 - 300;
+    let flipped = near ^ (1 << random.below(64));
+    let any = random.next() as i64;
+    random.choose(&[near, near, near, flipped, flipped, any, i64::MIN, i64::MAX])
+}
+
+/// Puts another number in place of one that is given.
+fn mutate_correction(random: &mut Random, correction: &mut Correction) {
+    let Correction { nodes, length, byte, .. } = correction;
+    let (at, near) = (random.below(nodes.len().max(1)), random.below(nodes.len() + 2));
+    let (far, bit) = (number(random), 1 << random.below(64));
+    match random.below(8) {
+        0 | 1 => correction.change = change(random),
+        2 => *length = random.choose(&[near, near, far, *length ^ bit]),
+        3 => *byte = random.choose(&[near, near, far, *byte ^ bit, *length]),
+        4 => random.spoil_symbols(nodes),
+        5 if at < nodes.len() => nodes[at] ^= 1 << random.below(16),
+        6 => nodes.resize(random.choose(&[at, near]), 256),
+        _ => correction.shape.k = random.choose(&[near, far]),
+    }
+}
+
+/// A small archive's correction, wrong or not, and then up to three changes of all that is given.
+fn correction(random: &mut Random) -> Correction {
+    let shape = random.small_header().shape;
+    let mut correction = random.correction(shape);
+    if random.once_in(4) {
+        random.spoil_correction(shape, &mut correction);
+    }
+    for _ in 0..random.choose(&[0, 1, 1, 2, 3]) {
+        mutate_correction(random, &mut correction);
+    }
+    correction
+}
+
+#[test]
+fn corrections() {
+    let tally = fuzz(correction, |_, correction| compare::correct(correction));
+    for number in [0, 1, 4, 5, 9, 12] {
         assert!(tally[number] > 0, "number {number} never came up");
     }
 }

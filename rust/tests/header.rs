@@ -30,6 +30,7 @@ fn assert_header(output: &str) {
     assert_cards(&mut lines);
     assert_eq!(lines.next(), Some(LAYERS));
     assert_eq!(lines.next(), Some(ORDERS));
+    assert_corrections(&mut lines);
     for number in numbers() {
         assert_eq!(lines.next(), Some(text(number).as_str()), "the text of {number}");
     }
@@ -49,7 +50,7 @@ fn assert_header(output: &str) {
 fn assert_constants(lines: &mut Lines) {
     let version = env!("CARGO_PKG_VERSION");
     assert_eq!(lines.next(), Some(format!("{version} {version}").as_str()));
-    for (cause, number) in Refusal::ALL.into_iter().zip([1, 2, 3, 4, 5, 6, 7, 11, 13]) {
+    for (cause, number) in Refusal::ALL.into_iter().zip([1, 2, 3, 4, 5, 6, 7, 9, 11, 12, 13]) {
         assert_eq!(lines.next(), Some(format!("{cause:?} {number}").as_str()));
     }
     assert_eq!(lines.next(), Some(format!("6 {}", hmsr::PLAN_TEXT).as_str()));
@@ -63,6 +64,17 @@ const LAYERS: &str = "271 271 257 257 267 11 2 2 1";
 /// behind, with an exchange before a message to its sender, and for no transfers, with a null pointer; then the refusals 4,
 /// 3, 2 and 1.
 const ORDERS: &str = "orders: 0 13 13 13 13 4 3 2 1";
+
+/// Corrections of document 01's first archive (document 02 §10): what is returned, and the symbols of place 1 afterwards. By
+/// -3, to what writing 3 3 gives, and back, by the ends of the range from 0 and from 255, and by nothing. Then 12 for
+/// changes out of range and those that leave no byte, 5, 9, 4 for each length, and 1, all of which change nothing.
+fn assert_corrections(lines: &mut Lines) {
+    let corrected = ["0: 3 252 2", "0: 6 247 4", "0: 0 0 0", "0: 255 89 170", "0: 0 0 0", "0: 6 247 4", "0: 6 247 4"];
+    let refused = [12, 12, 12, 12, 12, 12, 5, 9, 9, 4, 4, 1].map(|number| format!("{number}: 6 247 4"));
+    for line in corrected.map(str::to_string).iter().chain(&refused) {
+        assert_eq!(lines.next(), Some(line.as_str()));
+    }
+}
 
 /// What packing document 01's card gives with no hearing number, with 700, with 1 000 000 and with the largest number, and
 /// the header of each card that was made.

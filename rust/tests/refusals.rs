@@ -1,6 +1,6 @@
 //! Every cause of every call, alone and with each other cause: the number of the one that document 01 judges first, and
 //! every lent buffer as it was. The numbers here are written out from document 01, and from document 02, §6 for lists of
-//! losses, §9 for hearing numbers and §12 for orders of transfers.
+//! losses, §9 for hearing numbers, §10 for corrections and §12 for orders of transfers.
 
 mod naive;
 
@@ -25,6 +25,8 @@ struct Input {
     node: usize,
     length: usize,
     hearing: usize,
+    byte: usize,
+    change: i64,
     transcript: Vec<u8>,
     symbols: Vec<u16>,
     received: Vec<u16>,
@@ -51,6 +53,8 @@ fn accepted(symbols: Vec<u16>, lent: usize) -> Input {
         node: 5,
         length: 5,
         hearing: 0,
+        byte: 4,
+        change: -2,
         transcript: vec![7; 5],
         symbols,
         received: Vec::new(),
@@ -222,10 +226,11 @@ fn changed<T: Clone>(input: &T, changes: &[fn(&mut T)]) -> T {
 }
 
 /// "Elsewhere than in cards and the plan program, several causes yield the first by 1, 2, 3, 4, 5, .., 7" (8 between
-/// them is dropped by document 02 §11); 11 is "judged after 2" (document 02 §6) and 13 "judged after 4" (§12).
+/// them is dropped by document 02 §11); 11 is "judged after 2" (document 02 §6), 9 "judged after 4 and before 5" (§2), 13
+/// "judged after 4" (§12) and 12 "judged after 5" (§10).
 fn in_order<T>(causes: &[&[Cause<T>]]) -> Vec<Cause<T>> {
     let causes = causes.concat();
-    let order = [1, 2, 11, 3, 4, 13, 5, 7];
+    let order = [1, 2, 11, 3, 4, 9, 13, 5, 12, 7];
     let ranks: Vec<_> = causes.iter().map(|cause| order.iter().position(|number| *number == cause.1)).collect();
     assert!(ranks.iter().all(Option::is_some) && ranks.is_sorted());
     causes
@@ -318,6 +323,71 @@ fn open() {
         let answer = i.shape.open(&i.list, &i.symbols, i.length, lent.slice());
         lent.assert_holds(if answer.is_ok() { &[7; 5] } else { &[] });
         answer.err().map_or(0, Refusal::number)
+    });
+}
+
+/// Against k × N.
+const CORRECTED_LENGTH: &[Cause] = &[
+    ("length k × N + 1", 4, |i| i.length = CAPACITY + 1),
+    ("length 2^32 + 300", 4, |i| i.length = (1 << 32) + 300),
+    ("length 2^63 + 300", 4, |i| i.length = (1 << 63) + 300),
+    ("length the largest number", 4, |i| i.length = usize::MAX),
+];
+
+/// The byte's number is 200 of 300.
+const PAST_END: &[Cause] = &[
+    ("length 0", 9, |i| i.length = 0),
+    ("length is the byte's number", 9, |i| i.length = 200),
+    ("byte number 300", 9, |i| i.byte = 300),
+    ("byte number k × N", 9, |i| i.byte = CAPACITY),
+    ("byte number n × N", 9, |i| i.byte = 6 * N),
+    ("byte number 2^32 + 200", 9, |i| i.byte = (1 << 32) + 200),
+    ("byte number 2^63 + 200", 9, |i| i.byte = (1 << 63) + 200),
+    ("byte number the largest number", 9, |i| i.byte = usize::MAX),
+];
+
+/// Byte 200 stands on node 1 at place 8. "Number 5 here looks only at the byte's place in the n nodes."
+const PLACE: &[Cause] = &[
+    ("257 at the place of node 0", 5, |i| put(&mut i.symbols, 8, 257)),
+    ("512 in the byte's own symbol", 5, |i| put(&mut i.symbols, N + 8, 512)),
+    ("513 at the place of check node 2", 5, |i| put(&mut i.symbols, 2 * N + 8, 513)),
+    ("32768 at the place of check node 3", 5, |i| put(&mut i.symbols, 3 * N + 8, 32768)),
+    ("65535 at the place of the last node", 5, |i| put(&mut i.symbols, 5 * N + 8, 65535)),
+];
+
+/// The byte is 7. "The change is outside its range or the data symbol plus the change leaves 0 to 255."
+const CHANGE: &[Cause] = &[
+    ("change 256", 12, |i| i.change = 256),
+    ("change -256", 12, |i| i.change = -256),
+    ("change -8", 12, |i| i.change = -8),
+    ("change 249", 12, |i| i.change = 249),
+    ("change 2^16 - 2", 12, |i| i.change = (1 << 16) - 2),
+    ("change 2^32 - 2", 12, |i| i.change = (1 << 32) - 2),
+    ("change -2^32", 12, |i| i.change = -(1 << 32)),
+    ("change the largest number", 12, |i| i.change = i64::MAX),
+    ("change the least number", 12, |i| i.change = i64::MIN),
+    ("256 changed by 0", 12, |i| put_byte(i, 256, 0)),
+    ("256 changed by -256", 12, |i| put_byte(i, 256, -256)),
+    ("255 changed by 1", 12, |i| put_byte(i, 255, 1)),
+    ("0 changed by -1", 12, |i| put_byte(i, 0, -1)),
+];
+
+/// Another symbol in place of the byte's own, and another change.
+fn put_byte(i: &mut Input, symbol: u16, change: i64) {
+    put(&mut i.symbols, N + 8, symbol);
+    i.change = change;
+}
+
+/// All symbols are 65535 but those of the byte's place, and are not looked at.
+#[test]
+fn correct() {
+    let mut symbols = vec![65535; 6 * N];
+    (0..6).for_each(|node| symbols[node * N + 8] = [256, 7, 256, 0, 255, 256][node]);
+    let input = Input { length: 300, byte: 200, ..accepted(symbols, 0) };
+    let lengths = [SYMBOLS_LENGTH, CORRECTED_LENGTH].concat();
+    try_causes(input, &in_order(&[SHAPE, &lengths, PAST_END, PLACE, CHANGE]), |i| {
+        let mut nodes = Lent::around(&i.symbols);
+        judged(i.shape.correct(nodes.slice(), i.length, i.byte, i.change), [nodes])
     });
 }
 

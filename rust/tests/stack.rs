@@ -103,6 +103,21 @@ fn opened() {
     }
 }
 
+/// Bytes of the first and of the last place, on the first and on the last data node.
+#[test]
+fn corrected() {
+    for shape in SHAPES {
+        let mut archive = Archive::write(shape);
+        let (length, size) = (archive.transcript.len(), shape.node_symbols().unwrap());
+        for byte in [0, size - 1, length - size, length - 1] {
+            let change = 255 - 2 * i64::from(archive.transcript[byte]);
+            archive.transcript[byte] = 255 - archive.transcript[byte];
+            with_little_stack("correct", || shape.correct(&mut archive.nodes, length, byte, change));
+        }
+        assert!(archive.nodes == shape.write_to_nodes(&archive.transcript).unwrap());
+    }
+}
+
 #[test]
 fn packed_and_unpacked() {
     for shape in SHAPES {

@@ -1,9 +1,10 @@
-//! The cases whose outcome the programs of `tests/` work out from documents 01 and 02 (§6, §7, §9, §12) alone, run
+//! The cases whose outcome the programs of `tests/` work out from documents 01 and 02 (§6, §7, §9, §10, §12) alone, run
 //! through the library: each line of a stored file has to come out as it stands there.
 
 mod stored {
     pub mod card;
     pub mod code;
+    pub mod correct;
     pub mod digest;
     pub mod forms;
     pub mod layers;
@@ -15,7 +16,7 @@ mod stored {
     pub mod trial;
 }
 
-use stored::{card, code, layers, order, plan, repair, samples, steps};
+use stored::{card, code, correct, layers, order, plan, repair, samples, steps};
 
 /// Tells the first line that differs.
 fn assert_stored(made: &str, stored: &str) {
@@ -33,6 +34,11 @@ fn samples_of_the_documents() {
 #[test]
 fn archives() {
     assert_stored(&code::lines(), include_str!("../../tests/stored/code.txt"));
+}
+
+#[test]
+fn corrections() {
+    assert_stored(&correct::lines(), include_str!("../../tests/stored/correct.txt"));
 }
 
 #[test]

@@ -69,6 +69,8 @@ fn empty_buffers_are_refused_for_their_length() {
     assert_eq!(SHAPE.check(&[]), Err(Refusal::WrongLength));
     assert_eq!(SHAPE.restore(&[0], &[], &mut []), wrong);
     assert_eq!(SHAPE.open(&[0], &[], 0, &mut []), wrong);
+    assert_eq!(SHAPE.correct(&mut [], 0, 0, 0), wrong);
+    assert_eq!(SHAPE.correct_to_nodes(&[], 0, 0, 0), Err(Refusal::WrongLength));
     let repair = Repair { shape: SHAPE, dead: &[0], helpers: &[1, 2] };
     assert_eq!(repair.helper_message(1, 0, &[], &mut []), wrong);
     assert_eq!(repair.first_step(0, &[], &mut [], &mut []), wrong);
@@ -112,6 +114,7 @@ fn every_call_judges_every_shape() {
         judged(shape.check(&[0; 3]).map(drop));
         judged(shape.restore(&[0], &[0; 3], &mut [0; 3]));
         judged(shape.open(&[0], &[0; 3], 1, &mut [0; 1]));
+        judged(shape.correct(&mut [999; 3], usize::MAX, usize::MAX, i64::MIN));
         let repair = Repair { shape, dead: &[0], helpers: &[1, 2] };
         judged(repair.helper_message(1, 0, &[0; 3], &mut [0; 3]));
         judged(repair.first_step(0, &[0; 3], &mut [0; 3], &mut [0; 3]));
@@ -137,6 +140,39 @@ fn choosing_layers_judges_every_n_and_k() {
         assert_eq!(Shape::for_losses(nodes, data, &[]), no_losses);
         assert_eq!(Shape::for_losses(nodes, data, &[usize::MAX]), bad_loss);
     }
+}
+
+/// What correcting in place gives, and that both forms answer alike: the nodes, or the refusal and the nodes as they were.
+fn corrected(nodes: &[u16], length: usize, byte: usize, change: i64) -> Result<Vec<u16>, Refusal> {
+    let mut in_place = nodes.to_vec();
+    let answer = SHAPE.correct(&mut in_place, length, byte, change);
+    if answer.is_err() {
+        assert_eq!(in_place, nodes);
+    }
+    let answer = answer.map(|()| in_place);
+    assert_eq!(SHAPE.correct_to_nodes(nodes, length, byte, change), answer);
+    answer
+}
+
+/// Document 02 §10, on document 01's first archive.
+#[test]
+fn a_byte_is_corrected_or_refused_by_both_forms() {
+    let nodes = SHAPE.write_to_nodes(&[3, 6]).unwrap();
+    assert_eq!(corrected(&nodes, 2, 1, -3), SHAPE.write_to_nodes(&[3, 3]));
+    assert_eq!(corrected(&nodes, 2, 0, 252), SHAPE.write_to_nodes(&[255, 6]));
+    assert_eq!(corrected(&nodes, 8, 7, 255), SHAPE.write_to_nodes(&[3, 6, 0, 0, 0, 0, 0, 255]));
+    assert_eq!(corrected(&nodes, 2, 1, 0).as_ref(), Ok(&nodes));
+    for change in [-7, 250, -256, 256, (1 << 32) - 3, i64::MIN, i64::MAX] {
+        assert_eq!(corrected(&nodes, 2, 1, change), Err(Refusal::BadChange), "change {change}");
+    }
+    for (length, byte) in [(0, 0), (2, 2), (8, 8), (8, 24), (2, 1 << 32), (8, usize::MAX)] {
+        assert_eq!(corrected(&nodes, length, byte, 256), Err(Refusal::PastEnd), "byte {byte} of {length}");
+    }
+    assert_eq!(corrected(&nodes, 9, 9, 256), Err(Refusal::WrongLength));
+    assert_eq!(corrected(&nodes[1..], 2, 2, 256), Err(Refusal::WrongLength));
+    let high = [&[257], &nodes[1..]].concat();
+    assert_eq!(corrected(&high, 2, 0, 256), Err(Refusal::BadSymbol));
+    assert!(corrected(&high, 2, 1, 1).is_ok());
 }
 
 /// Ten dead nodes need eleven layers, and 11 is also the number of a refusal.
@@ -202,6 +238,7 @@ fn conveniences_and_sizes_judge_every_shape() {
         judged(shape.write_to_nodes(&[]).map(drop));
         judged(shape.restore_nodes(&[0], &[0; 3]).map(drop));
         judged(shape.open_to_vec(&[0], &[0; 3], usize::MAX).map(drop));
+        judged(shape.correct_to_nodes(&[999; 3], usize::MAX, usize::MAX, i64::MAX).map(drop));
         let repair = Repair { shape, dead: &[0], helpers: &[1, 2] };
         judged(repair.helper_message_to_vec(1, 0, &[0; 3]).map(drop));
         judged(repair.first_step_to_vec(0, &[0; 3]).map(drop));
@@ -419,7 +456,7 @@ fn a_plan_needs_its_room_and_no_more_is_touched() {
 
 #[test]
 fn refusals_have_their_numbers_and_one_sentence() {
-    let numbers = [1, 2, 3, 4, 5, 6, 7, 11, 13];
+    let numbers = [1, 2, 3, 4, 5, 6, 7, 9, 11, 12, 13];
     assert_eq!(Refusal::ALL.map(Refusal::number), numbers);
     for cause in Refusal::ALL {
         assert_eq!(Refusal::from_number(cause.number()), Some(cause));

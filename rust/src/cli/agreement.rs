@@ -29,11 +29,7 @@ impl Agreement {
                 tried.push(basis);
             }
         }
-        Err(Failure::Lost(format!(
-            "the cards of {} do not agree, and it cannot be told which are wrong: find more cards of this archive, or \
-             other copies of these",
-            nodes_listed(&present)
-        )))
+        Err(untold(cards, &present))
     }
 
     /// The cards that do not agree, in words, where there are some.
@@ -59,6 +55,19 @@ impl Agreement {
     fn wrong_files(&self, cards: &Cards) -> usize {
         self.wrong.iter().map(|&node| cards.names_of(node).len()).sum()
     }
+}
+
+/// It cannot be told which cards are wrong. A correction is finished where all cards are there.
+fn untold(cards: &Cards, present: &[usize]) -> Failure {
+    let correction = match present.len() == cards.shape.nodes {
+        true => "; if a correction was cut off, the same correction again finishes it",
+        false => "",
+    };
+    Failure::Lost(format!(
+        "the cards of {} do not agree, and it cannot be told which are wrong: find more cards of this archive, or \
+         other copies of these{correction}",
+        nodes_listed(present)
+    ))
 }
 
 /// For each choice of so many wrong nodes, the first k of the others.

@@ -3,7 +3,7 @@ use std::ffi::{OsStr, OsString};
 use std::num::IntErrorKind;
 use std::path::Path;
 
-use super::{Command, Failure};
+use super::{text, Command, Failure};
 
 /// The option that names sizes of loss.
 const LOSSES: &str = "--losses";
@@ -100,6 +100,20 @@ impl Args {
     /// An option's number.
     pub fn required_number(&self, name: &str) -> Result<usize, Failure> {
         self.number(name)?.ok_or_else(|| missing(name))
+    }
+
+    /// An option's byte: its number, or one printable character that is no digit. A digit is a number.
+    pub fn required_byte(&self, name: &str) -> Result<u8, Failure> {
+        let value = self.option(name).ok_or_else(|| missing(name))?;
+        match value.as_bytes() {
+            [character] if text::is_printable(*character) && !character.is_ascii_digit() => Ok(*character),
+            [_, ..] if value.bytes().all(|digit| digit.is_ascii_digit()) => value
+                .parse()
+                .map_err(|_| Failure::argument(&format!("{name}: {value} is too large, bytes are 0 to 255"))),
+            _ => Err(Failure::argument(&format!(
+                "{name}: {value} is not a byte, which is a number 0 to 255 or one printable ASCII character"
+            ))),
+        }
     }
 
     /// An option's numbers, rising and each once, where they are given: in lists of nodes and in lists of losses, order

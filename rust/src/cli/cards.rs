@@ -163,9 +163,14 @@ impl Cards {
         })
     }
 
-    /// What the card of a node says before its symbols.
-    pub fn header(&self, node: usize) -> Header {
-        Header { shape: self.shape, node, length: self.length, hearing: self.hearing }
+    /// A node's card, with its symbols among those of all nodes.
+    pub fn packed(&self, node: usize, nodes: &[u16]) -> Result<Vec<u8>, Failure> {
+        let refused = |refusal| {
+            Failure::refused(Failure::Lost, "the new card cannot be packed", refusal, "this is a fault of the program")
+        };
+        let size = self.shape.node_symbols().map_err(refused)?;
+        let header = Header { shape: self.shape, node, length: self.length, hearing: self.hearing };
+        header.pack_to_vec(&nodes[node * size..][..size]).map_err(refused)
     }
 
     fn kind(&self) -> Kind {

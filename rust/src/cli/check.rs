@@ -18,8 +18,8 @@ pub fn run(args: &Args) -> Result<Report, Failure> {
     }
 }
 
-/// What is to be said of the cards.
-fn judged(cards: &Cards) -> Result<String, Failure> {
+/// What is to be said of the cards; a failure where they are not sound.
+pub fn judged(cards: &Cards) -> Result<String, Failure> {
     if cards.absent().is_empty() {
         met(cards)?;
     }

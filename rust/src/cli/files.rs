@@ -1,5 +1,5 @@
 //! Reading files of bounded size, and placing new files whole or not at all.
-use std::fs::{self, File, OpenOptions, Permissions};
+use std::fs::{self, File, OpenOptions, Permissions, TryLockError};
 use std::io::{self, Read, Write};
 use std::os::unix::fs::OpenOptionsExt;
 use std::path::{Path, PathBuf};
@@ -87,6 +87,12 @@ impl Pending {
         Ok(Pending { temporary, target: target.to_path_buf() })
     }
 
+    /// The same, with the permissions of the file that it is to replace, where there is one.
+    pub fn replacing(target: &Path, bytes: &[u8]) -> io::Result<Pending> {
+        let permissions = fs::symlink_metadata(target).ok().map(|there| there.permissions());
+        Pending::write(target, bytes, permissions)
+    }
+
     /// Gives the file its name, which no file may have, whoever makes it meanwhile. Where the file system has no links,
     /// that is looked at just before.
     pub fn place_new(self) -> io::Result<()> {
@@ -113,6 +119,20 @@ pub fn sync_directory(directory: &Path) -> Result<(), Failure> {
             Err(Failure::of_path("send to the disk what is in", directory, &e))
         }
         _ => Ok(()),
+    }
+}
+
+/// Holds a directory until the file is closed, so that no two commands that hold it change its cards at once. Where it
+/// cannot be opened it is not read either, and where the file system has no locks nothing is held.
+pub fn hold(directory: &Path) -> Result<Option<File>, Failure> {
+    let Some(opened) = Some(directory).filter(|there| there.is_dir()).and_then(|there| File::open(there).ok()) else {
+        return Ok(None);
+    };
+    match opened.try_lock() {
+        Err(TryLockError::WouldBlock) => {
+            Err(Failure::Io(format!("another command changes the cards in {}: try again", shown(directory))))
+        }
+        _ => Ok(Some(opened)),
     }
 }
 

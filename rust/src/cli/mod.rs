@@ -5,6 +5,7 @@ mod card_files;
 mod cards;
 mod check;
 mod choice;
+mod correct;
 mod demo;
 mod failure;
 mod files;
@@ -17,6 +18,7 @@ mod open;
 mod order;
 mod plan;
 mod repair;
+mod replace;
 mod rules;
 #[allow(unsafe_code)]
 mod signals;
@@ -63,7 +65,7 @@ struct Command {
     run: fn(&Args) -> Result<Report, Failure>,
 }
 
-const COMMANDS: [Command; 9] = [
+const COMMANDS: [Command; 10] = [
     Command {
         name: "write",
         words: &["FILE", "DIR"],
@@ -88,6 +90,14 @@ const COMMANDS: [Command; 9] = [
         options: &["--dead", "--helpers"],
         flags: &["--dry-run", "--quiet"],
         run: repair::run,
+    },
+    Command {
+        name: "correct",
+        words: &["DIR"],
+        repeats: false,
+        options: &["--at", "--from", "--to"],
+        flags: &["--dry-run", "--quiet"],
+        run: correct::run,
     },
     Command {
         name: "layers",

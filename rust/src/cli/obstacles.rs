@@ -1,7 +1,8 @@
-//! What keeps a node's card from being made anew: nothing is written over but a file whose bytes are no card.
+//! What keeps a node's card from being made anew: nothing is written over but a file whose bytes are no card. And what
+//! keeps a readable card from being corrected.
 use std::fs;
 use std::io;
-use std::path::Path;
+use std::path::{Path, PathBuf};
 
 use super::card_files::{card_name, card_path, read_card, Unreadable, MOST_NAMES};
 use super::cards::Cards;
@@ -51,5 +52,21 @@ fn replaceable(path: &Path, at_first: Option<&Unreadable>) -> Result<(), Failure
             Err(Failure::Io(format!("{file} may be good, but cannot be read: {e}; if it is lost, move it away")))
         }
         (Err(Unreadable::NoCard(_)), _) => Ok(()),
+    }
+}
+
+/// The file of a readable card that is to be corrected; or why it cannot be. A copy of the card would keep the byte as it
+/// was, and so would the file that a link names.
+pub fn corrected_file(cards: &Cards, node: usize) -> Result<PathBuf, Failure> {
+    let files = cards.files_of(&[node]);
+    let [named] = cards.names_of(node)[..] else {
+        return Err(Failure::Repairable(format!("{files} are all cards of node {node}: move all but one away")));
+    };
+    let path = card_path(&cards.directory, named);
+    match fs::symlink_metadata(&path) {
+        Ok(there) if there.is_symlink() => {
+            Err(Failure::Io(format!("{files} is a link and would be replaced: put the card itself there")))
+        }
+        _ => Ok(path),
     }
 }

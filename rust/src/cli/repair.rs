@@ -1,5 +1,4 @@
 //! `hmsr repair`: missing and unreadable cards made anew, with the help of k + 1 others.
-use std::fs;
 use std::path::Path;
 
 use hmsr::Shape;
@@ -157,16 +156,9 @@ fn put_cards(cards: &Cards, dead: &[usize], nodes: &[u16]) -> Result<(), Failure
     files::sync_directory(&cards.directory)
 }
 
-/// A node's new card under a temporary name, with the permissions of the file that it replaces.
+/// A node's new card under a temporary name.
 fn pending_card(cards: &Cards, node: usize, nodes: &[u16]) -> Result<Pending, Failure> {
-    let refused = |refusal| {
-        Failure::refused(Failure::Lost, "the new card cannot be packed", refusal, "this is a fault of the program")
-    };
-    let size = cards.shape.node_symbols().map_err(refused)?;
-    let symbols = &nodes[node * size..][..size];
-    let card = cards.header(node).pack_to_vec(symbols).map_err(refused)?;
-    let path = card_path(&cards.directory, node);
-    let permissions = fs::symlink_metadata(&path).ok().map(|there| there.permissions());
+    let card = cards.packed(node, nodes)?;
     let failed = |e| Failure::of_path("write a new card into", &cards.directory, &e);
-    Pending::write(&path, &card, permissions).map_err(failed)
+    Pending::replacing(&card_path(&cards.directory, node), &card).map_err(failed)
 }

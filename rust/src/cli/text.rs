@@ -18,6 +18,19 @@ pub fn shown(path: &Path) -> String {
     one_line(&path.to_string_lossy())
 }
 
+/// Whether a byte is a printable ASCII character.
+pub fn is_printable(byte: u8) -> bool {
+    matches!(byte, b' '..=b'~')
+}
+
+/// "97 ('a')"; "10" where it is no printable character.
+pub fn byte_shown(byte: u8) -> String {
+    match is_printable(byte) {
+        true => format!("{byte} ('{}')", char::from(byte)),
+        false => byte.to_string(),
+    }
+}
+
 /// "1 layer", "3 layers".
 pub fn counted(count: usize, thing: &str) -> String {
     match count {

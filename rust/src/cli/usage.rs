@@ -1,7 +1,7 @@
 //! How each command is called, as `--help` shows it.
 
 /// A command, how it is called and what it does.
-const USAGES: [(&str, &str); 9] = [
+const USAGES: [(&str, &str); 10] = [
     (
         "write",
         "\
@@ -34,6 +34,16 @@ hmsr open DIR OUT [--quiet]
 hmsr repair DIR [--dead LIST] [--helpers LIST] [--dry-run] [--quiet]
         make missing and unreadable cards anew, all of them or those in LIST, with the help of K + 1 others; LIST is
         node numbers with commas, as 0,3,7; with --dry-run, say so and change nothing
+",
+    ),
+    (
+        "correct",
+        "\
+hmsr correct DIR --at BYTE --from X --to Y [--dry-run] [--quiet]
+        correct byte number BYTE of the transcript, counted from 0, from X to Y, each a number 0 to 255 or one printable
+        ASCII character that is no digit ('7' is 55); all cards have to be there and agree, and N - K + 1 of them are
+        rewritten; a correction that was killed is finished by the same correction again; with --dry-run, say so and
+        change nothing
 ",
     ),
     (
@@ -93,7 +103,7 @@ hmsr --version
 
 Exit status: 0 sound or done; 1 the transcript is there, but cards are missing or wrong: repair; 2 it is lost, or it
 cannot be told which cards are right; 3 wrong arguments; 4 a file cannot be read or written. Of order: 0 yes, 1 no, 3
-also a malformed list. All but 0 with one line on standard error.
+also a malformed list. Of correct: 3 also another byte. All but 0 with one line on standard error.
 ";
 
 /// Of all commands.

@@ -23,10 +23,16 @@ fn arguments_that_are_not_understood_are_told_on_one_line() {
         ("check drives --json=yes", "--json takes no value"),
         ("open drives opened --json", "there is no option --json here"),
         ("repair drives --dead 1,,2", "--dead:  is not a whole number"),
+        ("correct --at 0 --from 0 --to 1", "DIR is missing"),
+        ("correct drives --from 0 --to 1", "--at is missing"),
+        ("correct drives --at 0 --to 1", "--from is missing"),
+        ("correct drives --at 0 --from 0", "--to is missing"),
+        ("correct drives --at 0 --from 0 --to 1 --json", "there is no option --json here"),
         ("plan --nodes 4 --data 1 --layers 3 --dead 0", "--helpers is missing"),
         ("write transcript drives more --nodes 3 --data 1", "what is more for?"),
         ("open drives opened more", "what is more for?"),
         ("repair drives more", "what is more for?"),
+        ("correct drives more --at 0 --from 0 --to 1", "what is more for?"),
         ("plan more", "what is more for?"),
         ("demo more", "what is more for?"),
         ("info", "CARD is missing"),
@@ -54,7 +60,7 @@ fn a_number_that_is_too_large_is_told_from_one_that_is_none() {
 fn help_and_version_are_shown() {
     let place = Place::new("help");
     assert_eq!(place.does("--version"), format!("hmsr {}\n", env!("CARGO_PKG_VERSION")));
-    let commands = ["write", "check", "open", "repair", "layers", "plan", "order", "info", "demo"];
+    let commands = ["write", "check", "open", "repair", "correct", "layers", "plan", "order", "info", "demo"];
     for line in ["--help", "-h", "help"] {
         let help = place.does(line);
         assert!(commands.iter().all(|command| help.contains(&format!("\nhmsr {command}"))), "{line}: {help}");

@@ -30,11 +30,12 @@ static void log_call(const char *call, const char *path) {
     fclose(file);
 }
 
-/* Counts a call. At the call with the number FAULT_AT: ends the program, or says that the call is to fail. */
+/* Counts a call. At the call with the number FAULT_AT: ends the program, or says that the call is to fail; and each behind it
+   too with FAULT_HOW broken. */
 static int fault_at_call(void) {
     static long calls;
     const char *at = getenv("FAULT_AT");
-    if (!at || ++calls != atol(at)) return 0;
+    if (!at || ++calls < atol(at) || (calls > atol(at) && !is("FAULT_HOW", "broken"))) return 0;
     log_call("fault", "");
     if (is("FAULT_HOW", "kill")) raise(SIGKILL);
     errno = EIO;
@@ -78,8 +79,9 @@ ssize_t read(int file, void *bytes, size_t count) {
     return REAL(read)(file, bytes, count);
 }
 
-/* A program that is killed while it writes has written a part. */
+/* A program that is killed while it writes has written a part. It can print what it has to say where the disk is broken. */
 ssize_t write(int file, const void *bytes, size_t count) {
+    if (file <= 2 && is("FAULT_HOW", "broken")) return REAL(write)(file, bytes, count);
     if (!is("FAULT_HOW", "part")) return fault() ? -1 : REAL(write)(file, bytes, count);
     if (!fault_at_call()) return REAL(write)(file, bytes, count);
     REAL(write)(file, bytes, count / 2);

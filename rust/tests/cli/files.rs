@@ -78,6 +78,9 @@ fn control_characters_in_names_are_escaped() {
     for words in [
         &["write", "transcript", directory, "--nodes", "4", "--data", "1"][..],
         &["repair", directory],
+        // The first of those bytes is 60.
+        &["correct", directory, "--at", "0", "--from", "60", "--to", "0"],
+        &["correct", directory, "--at", "0", "--from", "0", "--to", "\u{8}"],
         &["open", directory, "new\tname"],
         &["open", directory, "new\tname"],
         &["info", directory],
@@ -97,9 +100,16 @@ fn control_characters_in_names_are_escaped() {
         "{printed:?}"
     );
     assert!(!printed.contains('\u{202e}'));
-    for name in
-        [shown, "made two\\nlines", "new\\tname is there already", "no\\u{7}where", "no\\rcommand", "--no\\u{8}option"]
-    {
+    for name in [
+        shown,
+        "made two\\nlines",
+        "rewrote two\\nlines",
+        "--to: \\u{8} is not a byte",
+        "new\\tname is there already",
+        "no\\u{7}where",
+        "no\\rcommand",
+        "--no\\u{8}option",
+    ] {
         assert!(printed.contains(name), "{printed} lacks {name}");
     }
 }

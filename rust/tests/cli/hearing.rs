@@ -7,7 +7,8 @@ use hmsr::{Header, Refusal, Shape};
 use crate::json::Json;
 use crate::place::{bytes, Place, IO, LOST, REPAIRABLE, USAGE};
 
-const COMMANDS: [&str; 3] = ["check drives", "open drives opened", "repair drives"];
+const COMMANDS: [&str; 4] =
+    ["check drives", "open drives opened", "repair drives", "correct drives --at 0 --from 0 --to 1"];
 
 /// What to do about cards that differ in the hearing number alone.
 const ADVICE: &str = "keep the cards of one hearing in a directory";

@@ -6,20 +6,20 @@ use std::os::unix::process::ExitStatusExt;
 use std::path::{Path, PathBuf};
 use std::process::{Command, Output, Stdio};
 
-use crate::place::{bytes, Place, IO};
+use crate::place::{bytes, Place, IO, USAGE};
 
-type Contents = BTreeMap<PathBuf, Option<Vec<u8>>>;
+pub type Contents = BTreeMap<PathBuf, Option<Vec<u8>>>;
 
 /// More calls than any of these commands makes.
 const MOST_CALLS: usize = 200;
 
 /// A situation in which a command is stopped.
-struct Case {
-    name: &'static str,
-    line: &'static str,
-    prepare: fn(&Place),
+pub struct Case {
+    pub name: &'static str,
+    pub line: &'static str,
+    pub prepare: fn(&Place),
     /// What is judged after the stop, with the contents before and those of a whole run.
-    judge: fn(&Place, &Contents, &Contents),
+    pub judge: fn(&Place, &Contents, &Contents),
 }
 
 /// A transcript of 30 bytes, to be written over four nodes, any one of them.
@@ -49,17 +49,22 @@ fn is_temporary(path: &Path) -> bool {
     path.to_string_lossy().contains("/.hmsr-")
 }
 
-/// Without what is temporary, all is as before or as after.
-fn all_or_nothing(place: &Place, before: &Contents, after: &Contents) {
+/// The contents without what is temporary.
+fn lasting(place: &Place) -> Contents {
     let mut now = place.contents();
     now.retain(|path, _| !is_temporary(path));
+    now
+}
+
+/// Without what is temporary, all is as before or as after.
+pub fn all_or_nothing(place: &Place, before: &Contents, after: &Contents) {
+    let now = lasting(place);
     assert!(now == *before || now == *after, "{:?}", now.keys());
 }
 
 /// Without what is temporary, each file is as before or as after.
-fn each_whole(place: &Place, before: &Contents, after: &Contents) {
-    let mut now = place.contents();
-    now.retain(|path, _| !is_temporary(path));
+pub fn each_whole(place: &Place, before: &Contents, after: &Contents) {
+    let now = lasting(place);
     for (path, file) in &now {
         assert!(before.get(path) == Some(file) || after.get(path) == Some(file), "{path:?}");
     }
@@ -90,7 +95,7 @@ const CASES: [Case; 5] = [
 ];
 
 /// Stops the command of a case at one call after the other, until it makes no further call. Gives how many it makes.
-fn stopped_at_each_call(case: &Case, how: &str) -> usize {
+pub fn stopped_at_each_call(case: &Case, how: &str) -> usize {
     let place = Place::new(&format!("stopped_{}_{how}", case.name));
     let log = place.0.with_extension("log");
     (case.prepare)(&place);
@@ -115,7 +120,7 @@ fn stopped_at_each_call(case: &Case, how: &str) -> usize {
 
 /// A killed command ends by the signal; one whose call failed says so, or has done its work all the same.
 fn ended(place: &Place, how: &str, output: &Output, after: &Contents) {
-    if how != "fail" {
+    if matches!(how, "kill" | "part") {
         assert_eq!(output.status.signal(), Some(9));
     } else if output.status.success() {
         let now = place.contents();
@@ -125,12 +130,17 @@ fn ended(place: &Place, how: &str, output: &Output, after: &Contents) {
     }
 }
 
-/// The same command again (an opened file is not opened into once more) leaves what a whole run leaves.
+/// The same command again (an opened file is not opened into once more) leaves what a whole run leaves; a byte that is
+/// corrected is not what it was said to be.
 fn finished(place: &Place, case: &Case, after: &Contents) {
     if case.line.starts_with("open") && place.path("opened").exists() {
         fs::remove_file(place.path("opened")).unwrap();
     }
-    place.does(case.line);
+    if case.line.starts_with("correct") && lasting(place) == *after {
+        place.turned_back(case.line, &place.run(case.line), USAGE, &["already"]);
+    } else {
+        place.does(case.line);
+    }
     let now = place.contents();
     assert!(now == *after, "{}: {:?}", case.name, now.keys());
 }

@@ -142,6 +142,9 @@ fn a_quiet_command_prints_nothing_but_why_it_failed() {
     assert_eq!(place.does("repair drives --quiet"), "");
     assert_eq!(place.does("open drives opened --quiet"), "");
     assert_eq!(fs::read(place.path("opened")).unwrap(), bytes(500, 1));
+    let line = format!("correct drives --at 3 --from {} --to 0 --quiet", bytes(500, 1)[3]);
+    assert_eq!(place.does(&line), "");
+    place.refuses(&line, USAGE, &["byte 3 is 0 already"]);
 }
 
 /// Each status by each command that can have it.
@@ -152,10 +155,12 @@ fn exit_statuses_are_those_of_the_readme() {
     assert_eq!(status("check drives"), 0);
     assert_eq!(status("check nowhere"), 4);
     assert_eq!(status("check"), 3);
+    let correct = "correct drives --at 0 --from 0 --to 0";
+    assert_eq!([status("correct nowhere --at 0 --from 0 --to 0"), status(correct)], [4, 3]);
     place.lose("drives", &[0, 1]);
-    assert_eq!(status("check drives"), 1);
+    assert_eq!([status("check drives"), status(correct)], [1, 1]);
     place.damage("drives", 2);
-    for line in ["check drives", "open drives opened", "repair drives"] {
+    for line in ["check drives", "open drives opened", "repair drives", correct] {
         assert_eq!(status(line), 2, "{line}");
     }
     place.lose("drives", &[2]);

@@ -1,6 +1,6 @@
 /* Prints the header's constants, a card of each form with its header's numbers, what choosing layers gives, whether transfers may run in
- * some orders, the texts, and every size for all shapes and losses of the numbers given, with what the library says to buffers of these
- * sizes. It is compiled as C and as C++. */
+ * some orders, what corrections leave, the texts, and every size for all shapes and losses of the numbers given, with what the library
+ * says to buffers of these sizes. It is compiled as C and as C++. */
 #include <stdio.h>
 #include <stdlib.h>
 #include <string.h>
@@ -18,7 +18,8 @@ static void print_constants(void) {
     printf("%s %d.%d.%d\n", HMSR_VERSION, HMSR_VERSION_MAJOR, HMSR_VERSION_MINOR, HMSR_VERSION_PATCH);
     printf("BadShape %d\nBadNodes %d\nPartBatch %d\n", HMSR_BAD_SHAPE, HMSR_BAD_NODES, HMSR_PART_BATCH);
     printf("WrongLength %d\nBadSymbol %d\nMalformed %d\n", HMSR_WRONG_LENGTH, HMSR_BAD_SYMBOL, HMSR_MALFORMED);
-    printf("NoTranscript %d\nNoLayers %d\nBadOrder %d\n", HMSR_NO_TRANSCRIPT, HMSR_NO_LAYERS, HMSR_BAD_ORDER);
+    printf("NoTranscript %d\nPastEnd %d\nNoLayers %d\n", HMSR_NO_TRANSCRIPT, HMSR_PAST_END, HMSR_NO_LAYERS);
+    printf("BadChange %d\nBadOrder %d\n", HMSR_BAD_CHANGE, HMSR_BAD_ORDER);
     printf("%d %d\n", HMSR_HEADER, HMSR_PLAN_TEXT);
 }
 
@@ -67,6 +68,38 @@ static void print_orders(void) {
     printf("\n");
 }
 
+/* Document 01's first archive. */
+static uint16_t archive[24];
+
+/* What correcting returns, the symbols of place 1, and any other symbol that changed. */
+static void print_correction(size_t layers, size_t nodes_length, size_t length, size_t byte, int64_t change) {
+    uint16_t before[24];
+    int i;
+    memcpy(before, archive, sizeof archive);
+    printf("%zu:", hmsr_correct(3, 1, layers, archive, nodes_length, length, byte, change));
+    for (i = 0; i < 24; i++)
+        if (i % 8 == 1) printf(" %d", archive[i]);
+        else if (archive[i] != before[i]) printf(" (%d at %d)", archive[i], i);
+    printf("\n");
+}
+
+static void print_corrections(void) {
+    const uint8_t bytes[] = {3, 6};
+    const int64_t done[] = {-3, 3, -6, 255, -255, 6, 0};
+    const int64_t out_of_range[] = {-256, 256, INT64_MIN, INT64_MAX, -7, 250};
+    size_t i;
+    if (hmsr_write(3, 1, 1, bytes, 2, archive, 24)) return;
+    for (i = 0; i < sizeof done / sizeof *done; i++) print_correction(1, 24, 2, 1, done[i]);
+    for (i = 0; i < sizeof out_of_range / sizeof *out_of_range; i++) print_correction(1, 24, 2, 1, out_of_range[i]);
+    archive[16] = 257;
+    print_correction(1, 24, 2, 0, 256);
+    print_correction(1, 24, 2, 2, 256);
+    print_correction(1, 24, 0, 0, 256);
+    print_correction(1, 24, 9, SIZE_MAX, 256);
+    print_correction(1, 23, 2, SIZE_MAX, 256);
+    print_correction(0, 23, 9, SIZE_MAX, 256);
+}
+
 static void print_shape(size_t n, size_t k, size_t layers) {
     size_t size = hmsr_node_symbols(n, k, layers), room = hmsr_card_room(n, k, layers);
     size_t packed = hmsr_pack(n, k, layers, 0, 0, 0, symbols, size, card, room);
@@ -96,6 +129,7 @@ int main(int count, char **words) {
     print_card(SIZE_MAX);
     print_layers();
     print_orders();
+    print_corrections();
     for (i = 1; i < count && i < 64; i++) {
         numbers[i] = (size_t)strtoull(words[i], NULL, 10);
         printf("%s\n", hmsr_refusal_text(numbers[i]));

@@ -1,9 +1,10 @@
-//! The naive implementation checked on its own: the samples of document 01, a card with a hearing number, lists of losses
-//! and orders of transfers (document 02), the parity equations by their definition, transcripts opened from any nodes, and
-//! repairs, whole and one transfer after the other.
+//! The naive implementation checked on its own: the samples of document 01, a card with a hearing number, lists of losses,
+//! corrections and orders of transfers (document 02), the parity equations by their definition, transcripts opened from any
+//! nodes and corrected, and repairs, whole and one transfer after the other.
 
 use super::naive::card::{put_number, take_number};
 use super::naive::code::point;
+use super::naive::correct::{changes, factors};
 use super::naive::field::{power, MODULUS, POINTS};
 use super::naive::judge::batch_layers;
 use super::naive::order::{numbers, run};
@@ -142,6 +143,41 @@ fn sample_losses() {
     assert_eq!(alone, [1, 3, 1, 5, 3, 7, 1, 9, 5, 11, 3, 13]);
 }
 
+/// The first archive corrected (document 02 §10). By hand, the factors of place 0, and of a = 0 in another layer, are 170
+/// and 86: 1 + 170 + 86 and 1 + 3 × 170 + 9 × 86 are multiples of 257. Those of place 1, where node 0's point is 256, are
+/// 84 and 172.
+#[test]
+fn sample_corrections() {
+    assert_eq!((factors(SMALL, 0, 0), factors(SMALL, 0, 1)), (vec![170, 86], vec![84, 172]));
+    assert_eq!(factors(Shape { layers: 2, ..SMALL }, 0, 8), [170, 86]);
+    let with = |byte, change| Correction { shape: SMALL, nodes: first_archive(), length: 2, byte, change };
+    assert_eq!(changes(&with(0, 1)), Ok(vec![(0, 3 + 1), (8, 253 + 170 - 257), (16, 1 + 86)]));
+    assert_eq!(changes(&with(1, -1)), Ok(vec![(1, 6 - 1), (9, 247 - 84), (17, 4 + 257 - 172)]));
+    assert_eq!(correct(&with(1, -3)), write(SMALL, &[3, 3], 24));
+    assert_eq!(correct(&with(1, 0)), Ok(first_archive()));
+    for (byte, change, number) in [(2, 0, 9), (usize::MAX, 256, 9), (1, -7, 12), (1, 250, 12), (0, i64::MIN, 12)] {
+        assert_eq!(correct(&with(byte, change)), Err(number));
+    }
+    let mut high = with(1, i64::MAX);
+    high.nodes[2..9].fill(65535);
+    assert_eq!(correct(&high), Err(12));
+    high.nodes[9] = 257;
+    assert_eq!(correct(&high), Err(5));
+    assert_eq!(correct(&Correction { byte: 2, ..high.clone() }), Err(9));
+    assert_eq!(correct(&Correction { length: 9, byte: 9, ..high.clone() }), Err(4));
+    assert_eq!(correct(&Correction { shape: Shape { layers: 0, ..SMALL }, length: 9, ..high }), Err(1));
+}
+
+/// 256 is no byte, but may be corrected to one, and not by nothing.
+#[test]
+fn sample_corrections_of_256() {
+    let nodes = random::codeword_of(SMALL, &[256, 0, 0, 0, 0, 0, 0, 0]);
+    let by = |change| correct(&Correction { shape: SMALL, nodes: nodes.clone(), length: 1, byte: 0, change });
+    assert_eq!(by(-1), write(SMALL, &[255], 24));
+    assert_eq!(by(-255), write(SMALL, &[1], 24));
+    assert_eq!([by(0), by(-256), by(1)], [Err(12), Err(12), Err(12)]);
+}
+
 /// Document 01's plan (n = 4, k = 1, L = 3, nodes 0 and 1 dead, helpers 2 and 3) in its own order and in others, by hand
 /// (document 02 §12).
 #[test]
@@ -200,6 +236,24 @@ fn written_is_a_codeword_and_opens_from_any_nodes() {
             (list.iter()).flat_map(|&node| nodes[node * size..(node + 1) * size].to_vec()).collect();
         assert_eq!(restore(shape, &list, &symbols, nodes.len()), Ok(nodes));
         assert_eq!(open(shape, &list, &symbols, length, length), Ok(transcript));
+    }
+}
+
+/// "If the archive was written from a transcript of that length, the result equals writing the corrected transcript
+/// afresh" (document 02 §10).
+#[test]
+fn corrected_is_written_afresh() {
+    let mut random = Random::new(4);
+    for _ in 0..60 {
+        let shape = random.shape(6000);
+        let length = random.between(1, shape.capacity());
+        let mut transcript = random.bytes(length);
+        let nodes = write(shape, &transcript, shape.n * shape.symbols()).unwrap();
+        let (byte, corrected) = (random.below(length), random.below(256) as u8);
+        let change = i64::from(corrected) - i64::from(transcript[byte]);
+        transcript[byte] = corrected;
+        let afresh = write(shape, &transcript, nodes.len());
+        assert_eq!(correct(&Correction { shape, nodes, length, byte, change }), afresh);
     }
 }
 

@@ -5,7 +5,7 @@
 use super::naive::lent::Lent;
 use super::naive::plan::Transfer;
 use super::naive::random::Random;
-use super::naive::{self, Fault, Header, Lists, Number, Shape};
+use super::naive::{self, Correction, Fault, Header, Lists, Number, Shape};
 use hmsr::{Checked, Refusal};
 
 pub fn library(shape: Shape) -> hmsr::Shape {
@@ -71,6 +71,18 @@ pub fn open(
     let answer = library(shape).open(list, symbols, length, transcript.slice());
     let (number, made) = agreed(answer, naive::open(shape, list, symbols, length, transcript_length));
     transcript.assert_holds(&made);
+    number
+}
+
+/// In place and in a new buffer.
+pub fn correct(correction: &Correction) -> Number {
+    let Correction { shape, nodes: before, length, byte, change } = correction;
+    let mut nodes = Lent::around(before);
+    let answer = library(*shape).correct(nodes.slice(), *length, *byte, *change);
+    let corrected = library(*shape).correct_to_nodes(before, *length, *byte, *change);
+    assert!(corrected == answer.map(|()| nodes.slice().to_vec()), "the corrected nodes in a new buffer");
+    let (number, made) = agreed(answer, naive::correct(correction));
+    nodes.assert_holds(&made);
     number
 }
 

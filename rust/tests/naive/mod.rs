@@ -6,6 +6,7 @@
 
 pub mod card;
 pub mod code;
+pub mod correct;
 pub mod field;
 pub mod judge;
 pub mod layers;
@@ -17,6 +18,7 @@ pub mod repair;
 
 pub use card::{pack, pack_before, unpack, unpack_before, Header};
 pub use code::{check, open, restore, write, Fault};
+pub use correct::{correct, Correction};
 pub use judge::{Lists, Number, Shape};
 pub use layers::layers;
 pub use order::may_run;

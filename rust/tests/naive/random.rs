@@ -2,7 +2,7 @@
 
 use super::judge::batch_layers;
 use super::plan::Transfer;
-use super::{restore, Header, Lists, Shape};
+use super::{restore, Correction, Header, Lists, Shape};
 
 /// SplitMix64.
 pub struct Random(u64);
@@ -205,6 +205,56 @@ impl Random {
             let loss = self.choose(&[0, shape.equations(), far, far, (1 << 32) + near, (1 << 63) + near, usize::MAX]);
             let at = self.below(losses.len() + 1);
             losses.insert(at, loss);
+        }
+    }
+
+    /// One of so many numbers from 0 on, the first and the last more often.
+    fn one_of(&mut self, count: usize) -> usize {
+        let any = self.below(count);
+        self.choose(&[0, count - 1, any, any, any, any])
+    }
+
+    /// An accepted correction in nodes that hold no codeword: symbols at the byte's place, and anything elsewhere.
+    pub fn correction(&mut self, shape: Shape) -> Correction {
+        let byte = self.one_of(shape.k) * shape.symbols() + self.one_of(shape.symbols());
+        let length = byte + 1 + self.one_of(shape.capacity() - byte);
+        let nodes = self.garbage(shape.n * shape.symbols());
+        let mut correction = Correction { shape, nodes, length, byte, change: 0 };
+        correction.place_indices().into_iter().for_each(|index| correction.nodes[index] = self.symbol());
+        // From 256 down to 0 is out of range.
+        correction.change = (self.one_of(256) as i64 - i64::from(correction.nodes[byte])).max(-255);
+        correction
+    }
+
+    /// A change that is out of range, whatever the data symbol is.
+    fn no_change(&mut self) -> i64 {
+        let near = self.one_of(300) as i64;
+        let truncates = near + (1 << self.choose(&[8, 9, 16, 32, 62]));
+        self.choose(&[256 + near, -256 - near, truncates, -truncates, i64::MAX - near, i64::MIN + near])
+    }
+
+    /// Makes a correction wrong, in nodes of that shape, in one of the ways in which it can be; any change that is in range
+    /// may leave it right.
+    pub fn spoil_correction(&mut self, shape: Shape, correction: &mut Correction) {
+        let (capacity, place) = (shape.capacity(), correction.byte % shape.symbols());
+        let near = self.between(0, capacity);
+        match self.below(9) {
+            0 => self.spoil_shape(&mut correction.shape),
+            1 => drop(correction.nodes.pop()),
+            2 => correction.nodes.push(0),
+            3 => correction.length = self.choose(&[capacity + 1, usize::MAX, near + (1 << 32), near + (1 << 63)]),
+            4 => correction.length = self.choose(&[0, correction.byte, correction.byte / 2]),
+            5 => {
+                let far = self.hostile(correction.byte);
+                correction.byte = self.choose(&[correction.length, capacity, correction.nodes.len(), far]);
+            }
+            6 => {
+                let index = self.below(shape.n) * shape.symbols() + place;
+                // The last node may be one short.
+                self.spoil_symbols(correction.nodes.get_mut(index..=index).unwrap_or_default());
+            }
+            7 => correction.change = self.no_change(),
+            _ => correction.change = self.between(0, 510) as i64 - 255,
         }
     }
 

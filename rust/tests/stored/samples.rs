@@ -1,6 +1,6 @@
 //! The samples of document 01, and a card with a hearing number (document 02 §9): each call's answer and what it left in
 //! its buffers, a line for each; then the answers for lists of losses and orders of transfers (document 02 §6, §12), which
-//! fill no buffer.
+//! fill no buffer; then corrections (§10).
 
 use super::digest::{line, number};
 use hmsr::{unpack, Header, Refusal, Repair, Shape};
@@ -105,6 +105,36 @@ fn orders() -> String {
         + &line(&[may_run(&plan[..10]), with(&[2, 0]), with(&[9, 0]), with(&[2]), may_run(&[])])
 }
 
+/// The nodes after a correction of one byte of that many.
+fn corrected(mut nodes: [u16; 24], length: usize, byte: usize, change: i64) -> (usize, [u16; 24]) {
+    let answer = number(TINY.correct(&mut nodes, length, byte, change));
+    (answer, nodes)
+}
+
+/// Byte 0 of an archive of zeros by 1 and by 255, and that by -255; byte 1 of the first archive; and those that are
+/// refused.
+fn corrections() -> String {
+    let (most, highest) = corrected([0; 24], 1, 0, 255);
+    let rows = [
+        corrected([0; 24], 1, 0, 1),
+        (most, highest),
+        corrected(highest, 1, 0, -255),
+        corrected(first_archive(), 2, 1, -3),
+    ];
+    rows.map(|(answer, nodes)| shown(answer, &nodes)).concat() + &refused_corrections()
+}
+
+/// The answers alone, for the first archive, with 257 at place 1, and with 256 in its first byte.
+fn refused_corrections() -> String {
+    let answer = |nodes, byte, change| corrected(nodes, 2, byte, change).0 as u64;
+    let (first, mut high, mut no_byte) = (first_archive(), first_archive(), first_archive());
+    (high[9], no_byte[0]) = (257, 256);
+    let changes = [-7, 250, -256, 256].map(|change| answer(first, 1, change));
+    let others = [answer(high, 1, 256), answer(high, 2, 256)];
+    line(&[&[answer(first, 2, 0)], &changes[..], &others].concat())
+        + &line(&[-1, 0, -256].map(|change| answer(no_byte, 0, change)))
+}
+
 pub fn lines() -> String {
     let four = |layers| Shape { nodes: 4, data: 1, layers };
     let losses = [two_lost(TINY, &[2]), two_lost(four(1), &[2, 3]), two_lost(four(3), &[2, 3])];
@@ -126,6 +156,7 @@ pub fn lines() -> String {
         line(&losses),
         chosen_layers(),
         orders(),
+        corrections(),
     ]
     .concat()
 }
