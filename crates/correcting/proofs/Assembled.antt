@@ -22,8 +22,7 @@ use Rattle.correcting.specs.Signed.{toResidue}
 use Rattle.correcting.specs.Correcting.{changeFactor, corrected}
 use Rattle.correcting.specs.Steps.{Correctable, Changes, Changed}
 use Rattle.correcting.proofs.Factors.{factor-other}
-use Rattle.correcting.proofs.Corrected.{place-small, corrected-length, corrected-there, corrected-elsewhere}
-use Rattle.correcting.proofs.Differing.{stays}
+use Rattle.correcting.proofs.Corrected.{place-small, corrected-length, corrected-there, corrected-kept, corrected-elsewhere}
 
 module _ (s : Shape) (nodes : List ℕ) (b : ℕ) (z : ℤ) (w : Correctable narrow s nodes b z) (by : List ℕ) (each : Changes s (b / size s) (b % size s) (toResidue (narrow .modulus) z) by) where
   abbrev q : ℕ
@@ -51,8 +50,8 @@ module _ (s : Shape) (nodes : List ℕ) (b : ℕ) (z : ℤ) (w : Correctable nar
   byte-inside = omega (arith, w .long, w .within, mul-le-mul {n₁ = s .k} {m₁ = N} {n₂ = s .n} {m₂ = N} fits (omega arith))
 
   -- what a node's symbol at the place is then, if it changes by its number
-  moved : (i : ℕ) → i < s .n → (symbol s nodes i (b % size s) + element by i) % q ≡ symbol s (corrected narrow s nodes b z) i (b % size s)
-  moved i h =
+  changed-there : (i : ℕ) → i < s .n → (symbol s nodes i (b % size s) + element by i) % q ≡ symbol s (corrected narrow s nodes b z) i (b % size s)
+  changed-there i h =
       ap (λ u. (symbol s nodes i (b % N) + u) % q) (each .each i h) ∙ add-mod-mod (symbol s nodes i (b % N)) (d * F i) q
       ∙ sym (corrected-there narrow s nodes b z i (b % N) h (spot .place) refl)
 
@@ -87,15 +86,15 @@ module _ (s : Shape) (nodes : List ℕ) (b : ℕ) (z : ℤ) (w : Correctable nar
     here i h (yes l) (yes e) =
         kept i (b % N) (spot .place) (λ _. l)
         ∙ ap (λ u. getD first u 0) (ap (λ u. u * N + b % N) e ∙ spot .whole) ∙ getD-set-same nodes b _ 0 byte-inside
-        ∙ ap (λ u. (getD nodes u 0 + element by (b / N)) % q) (sym (spot .whole)) ∙ moved (b / N) (omega (arith, spot .row, fits))
+        ∙ ap (λ u. (getD nodes u 0 + element by (b / N)) % q) (sym (spot .whole)) ∙ changed-there (b / N) (omega (arith, spot .row, fits))
         ∙ ap (λ u. symbol s (corrected narrow s nodes b z) u (b % N)) (sym e)
     here i h (yes l) (no n) =
         kept i (b % N) (spot .place) (λ _. l) ∙ first-other (i * N + b % N) (apart i n)
-        ∙ sym (stays narrow s good fits (omega arith) nodes (w .long) b z (w .within) (place-small narrow s nodes (b % N) (w .small)) (w .change) i h
-        (ap (λ u. d * u) (factor-other narrow s good fits (b / N) (b % N) i l n) ∙ omega arith))
+        ∙ sym (corrected-kept narrow s nodes b z i (b % N) h (spot .place) refl
+        (ap (λ u. d * u) (factor-other narrow s good fits (b / N) (b % N) i l n) ∙ omega arith) (place-small narrow s nodes (b % N) (w .small) i h))
     here i h (no l) _ =
         checks .there i (omega arith) h
-        ∙ ap (λ u. (u + element by i) % q) (first-other (i * N + b % N) (apart i (λ e. omega (arith, spot .row)))) ∙ moved i h
+        ∙ ap (λ u. (u + element by i) % q) (first-other (i * N + b % N) (apart i (λ e. omega (arith, spot .row)))) ∙ changed-there i h
 
     pub changed-corrected : after ≡ corrected narrow s nodes b z
     unfolding symbol

@@ -66,6 +66,12 @@ module _ (c : Code) (s : Shape) (nodes : List ℕ) (b : ℕ) (z : ℤ) where
         held ∙ cond-equal _ _ ((i * M + place) % M) (b % M) (digits-mod i l ∙ e)
         ∙ ap (λ u. (getD nodes (i * M + place) 0 + toResidue (c .modulus) z * changeFactor c s (b / M) (b % M) u) % c .modulus) (digits-div i l)
 
+    -- nothing is added there where the change, or the factor, is 0
+    pub corrected-kept : place ≡ b % size s → toResidue (c .modulus) z * changeFactor c s (b / size s) (b % size s) i ≡ 0 → symbol s nodes i place < c .modulus
+        → symbol s (corrected c s nodes b z) i place ≡ symbol s nodes i place
+    corrected-kept e none small =
+        corrected-there e ∙ ap (λ u. (symbol s nodes i place + u) % c .modulus) none ∙ ap (λ u. u % c .modulus) (omega arith) ∙ mod-eq-of-lt small
+
     -- "only at the byte's place"
     pub corrected-elsewhere : place ≢ b % size s → symbol s (corrected c s nodes b z) i place ≡ symbol s nodes i place
     unfolding correctedSymbol symbol

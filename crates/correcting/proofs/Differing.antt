@@ -28,7 +28,7 @@ use Rattle.correcting.specs.Signed.{toResidue, changeBad, moved}
 use Rattle.correcting.specs.Correcting.{changeFactor, corrected, touched, differing}
 use Rattle.correcting.proofs.Signed.{Change, change-accepted, residue-small, residue-moves, residue-zero, zero-residue}
 use Rattle.correcting.proofs.Factors.{factor-own, factor-other, factor-nonzero, factor-low}
-use Rattle.correcting.proofs.Corrected.{corrected-there, corrected-elsewhere}
+use Rattle.correcting.proofs.Corrected.{corrected-there, corrected-kept, corrected-elsewhere}
 
 -- ---- the places that may differ
 
@@ -82,21 +82,21 @@ module _ (s : Shape) (b : ℕ) (fits : s .k ≤ s .n) (within : b < s .k * size 
           absurd (n (position e (tabulate r check)) l (sym (v .1) ∙ tabulate-at r check _ 0 l))
 
   -- place p of node i
-  pub touched-elsewhere : (i p : ℕ) → p < size s → p ≢ b % size s → member (i * size s + p) (touched s b) ≡ false
+  touched-elsewhere : (i p : ℕ) → p < size s → p ≢ b % size s → member (i * size s + p) (touched s b) ≡ false
   touched-elsewhere i p l d =
       touched-not (i * size s + p) (λ e. d (sym (digits-mod i l) ∙ ap (λ u. u % size s) e))
       (λ j h e. d (sym (digits-mod i l) ∙ ap (λ u. u % size s) e ∙ digits-mod (s .k + j) (at .place)))
 
-  pub touched-other : (i : ℕ) → i < s .k → i ≢ b / size s → member (i * size s + b % size s) (touched s b) ≡ false
+  touched-other : (i : ℕ) → i < s .k → i ≢ b / size s → member (i * size s + b % size s) (touched s b) ≡ false
   touched-other i h d =
       touched-not (i * size s + b % size s) (λ e. d (sym (digits-div i (at .place)) ∙ ap (λ u. u / size s) e))
       (λ j l e. omega (arith, sym (digits-div i (at .place)) ∙ ap (λ u. u / size s) e ∙ digits-div (s .k + j) (at .place)))
 
-  pub touched-here : (i : ℕ) → i ≡ b / size s → member (i * size s + b % size s) (touched s b) ≡ true
+  touched-here : (i : ℕ) → i ≡ b / size s → member (i * size s + b % size s) (touched s b) ≡ true
   unfolding touched
   touched-here i e = member-head _ b (tabulate r check) (ap (λ u. u * size s + b % size s) e ∙ at .whole)
 
-  pub touched-checks : (i : ℕ) → s .k ≤ i → i < s .n → member (i * size s + b % size s) (touched s b) ≡ true
+  touched-checks : (i : ℕ) → s .k ≤ i → i < s .n → member (i * size s + b % size s) (touched s b) ≡ true
   unfolding touched
   touched-checks i h l =
       ap (λ u. member u (touched s b)) (sym (tabulate-at r check (i - s .k) 0 (omega arith) ∙ ap (λ u. u * size s + b % size s) (let f : s .k + (i - s .k) ≡ i = omega arith in f)))
@@ -141,9 +141,8 @@ module _ (c : Code) (s : Shape) (good : GoodCode c (s .n)) (fits : s .k ≤ s .n
       ∙ residue-moves q (getD nodes b 0) z _ (pos q (good .prime)) (known .is) ∙ mod-eq-of-lt (omega (arith, known .low))
       ∙ ap (λ u. moved (getD nodes u 0) z) (sym (spot .whole))
 
-  -- nothing is added where the change, or the factor, is 0
-  pub stays : (i : ℕ) → i < s .n → d * F i ≡ 0 → symbol s after i (b % size s) ≡ symbol s nodes i (b % size s)
-  stays i h e = there i h ∙ ap (λ u. (symbol s nodes i (b % N) + u) % q) e ∙ ap (λ u. u % q) (omega arith) ∙ mod-eq-of-lt (small i h)
+  stays : (i : ℕ) → i < s .n → d * F i ≡ 0 → symbol s after i (b % size s) ≡ symbol s nodes i (b % size s)
+  stays i h e = corrected-kept c s nodes b z i (b % N) h (spot .place) refl e (small i h)
 
   moves : natAbs z ≢ 0 → (i : ℕ) → i < s .n → F i ≢ 0 → symbol s after i (b % size s) ≢ symbol s nodes i (b % size s)
   moves n i h f e =

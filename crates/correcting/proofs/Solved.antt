@@ -53,7 +53,7 @@ module _ (s : Shape) (shape : shapeBad s ≡ false) (node place d : ℕ) (within
   }
 
   module _ (column : List ℕ) (w : Completes (narrow .modulus) (take (s .n) ps) (take (s .k) all) (take (s .k) values) column) where
-    pub column-long : length column ≡ s .n
+    column-long : length column ≡ s .n
     unfolding completed
     column-long = ap length (w .whole) ∙ tabulate-length _ _ ∙ ps-long
 

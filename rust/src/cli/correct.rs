@@ -1,9 +1,10 @@
 //! `hmsr correct`: one byte of the transcript, in the cards that it changes.
 //!
 //! A correction that is killed between two renames leaves cards of two codewords, with the byte as it was and as it is to
-//! be. They differ in n - k + 1 nodes, so no third codeword agrees with all cards but (n - k) div 2: the other commands
-//! name the fewer cards as wrong, and those moved away and repaired give one of the two; or there are as many of both, and
-//! they cannot tell. In either case the same correction again finishes it, and one from Y to X takes it back.
+//! be. They differ in n - k + 1 nodes, so, as long as no card is lost besides, no third codeword agrees with all cards but
+//! (n - k) div 2: the other commands name the fewer cards as wrong, and those moved away and repaired give one of the two;
+//! or there are as many of both, and they cannot tell. In either case the same correction again finishes it, and one from
+//! Y to X takes it back.
 use std::path::Path;
 
 use super::args::Args;
