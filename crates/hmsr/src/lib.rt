@@ -12,18 +12,20 @@ use returned::symbol_number;
 use returned::unpack_room;
 use shape::Shape;
 use shape::number_of;
+use stretches::Read;
 ghost use Rattle.shape.specs.Refusals.{answerNumber};
 ghost use Rattle.code.specs.Promises.{Writes, Restores, Opens};
 ghost use Rattle.checking.specs.Promises.{Checks};
+ghost use Rattle.stretches.specs.Promises.{OpensStretches};
 ghost use Rattle.repair.specs.Promises.{HelperMessage, FirstStep, SecondStep, Repaired};
 ghost use Rattle.card.specs.Promises.{Packs};
 ghost use Rattle.plan.specs.Promises.{Plans};
 ghost use Rattle.choosing.specs.Promises.{Chooses};
 ghost use Rattle.ordering.specs.Promises.{Orders};
 ghost use Rattle.correcting.specs.Promises.{Corrects};
-ghost use Rattle.returned.specs.Promises.{Returned, shapeOf, headerFrom, checkReturned, packReturned, planReturned, layersReturned, UnpackReturned};
+ghost use Rattle.returned.specs.Promises.{Returned, shapeOf, headerFrom, checkReturned, packReturned, planReturned, layersReturned, readReturned, UnpackReturned};
 
-// What check, pack, plan and layers find is returned behind the numbers below this one, which are refusals'.
+// What check, pack, plan, layers and the stretches find is returned behind the numbers below this one, which are refusals'.
 const FIRST_FOUND: usize = 256;
 
 // The archive of a transcript.
@@ -87,6 +89,29 @@ pub extern "C" fn hmsr_open(
 {
     let s = Shape { n, k, layers };
     answer_number(opening::open(s, list, symbols, len, transcript))
+}
+
+// Stretches of the transcript of `len` bytes from any k nodes, and the columns that they touch (document 02 §2): a refusal's number, or the
+// count of symbols read behind FIRST_FOUND.
+#[no_mangle]
+pub extern "C" fn hmsr_open_stretches(
+    n: usize,
+    k: usize,
+    layers: usize,
+    list: &[usize],
+    symbols: &[u16],
+    len: usize,
+    stretches: &[usize],
+    bytes: &mut [u8],
+    columns: &mut [usize],
+) -> usize
+    ensures { λ r. ⌜ Returned readReturned (OpensStretches (shapeOf n k layers) (now (list .entry)) (now (symbols .entry)) len (now (stretches .entry)) (now (bytes .entry)) (now (bytes .exit)) (now (columns .entry)) (now (columns .exit))) r ⌝ }
+{
+    let s = Shape { n, k, layers };
+    match stretches::open_stretches(s, list, symbols, len, stretches, bytes, columns) {
+        Read::Refused(cause) => number_of(cause),
+        Read::Symbols(count) => FIRST_FOUND + count,
+    }
 }
 
 // A helper's message to a new node.

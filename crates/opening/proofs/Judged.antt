@@ -32,7 +32,7 @@ readable s list symbols len room e =
     record { shape = w .shape; up = w .given .nodes; count = w .given .count; long = w .long; small = w .given .small }
 
 -- with no room nothing is stored
-judged-only : (D : ℕ → ℕ) (len : ℕ) (All : ℕ → Type 0) (before after : List ℕ) (fit : Bool) → Walked D len 0 All before after fit → after ≡ before
+pub judged-only : (D : ℕ → ℕ) (len : ℕ) (All : ℕ → Type 0) (before after : List ℕ) (fit : Bool) → Walked D len 0 All before after fit → after ≡ before
 judged-only D len All before after fit w = ext-getD 0 after before (w .long) (λ e h. go e (w .others e))
   where
     go : (e : ℕ) → (getD after e 0 ≡ getD before e 0) ⊎ ((e < 0) × (getD after e 0 ≡ D e)) → getD after e 0 ≡ getD before e 0

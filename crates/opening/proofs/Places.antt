@@ -34,6 +34,28 @@ use Rattle.opening.specs.Steps.{Readable, opened, Factors, Walked, OneOf
 use Rattle.factors.proofs.Factors.{factor-missing, opened-sum}
 use Rattle.opening.proofs.Walking.{walked-as, walked-then}
 
+module _ (s : Shape) (list symbols : List ℕ) where
+  opened-at : (i p : ℕ) → p < size s → opened s list symbols (i * size s + p) ≡ weighed narrow s symbols (factor narrow (s .n) list (p % 2 ^ s .n) i) p
+  unfolding opened
+  opened-at i p l = ap₂ (λ x y. weighed narrow s symbols (factor narrow (s .n) list (y % 2 ^ s .n) x) y) (digits-div i l) (digits-mod i l)
+
+  -- ---- a node that is not listed, at a run of places
+
+  module _ (place run : ℕ) (fits : place + run ≤ size s) (table : List ℕ) where
+    pub missing-weighed : (i : ℕ) (sums : List ℕ) → i < s .k → member i list ≡ false → Factors s list table place run
+        → Summed run (size s) place (range 0 (s .k)) table (i * s .k) symbols (length (range 0 (s .k))) sums
+        → (t : ℕ) → t < run → opened s list symbols (i * size s + place + t) ≡ getD sums t 0 % narrow .modulus
+    unfolding weighed term symbol
+    missing-weighed i sums h unlisted w summed t l =
+        ap (opened s list symbols) (let z : i * size s + place + t ≡ i * size s + (place + t) = omega arith in z) ∙ opened-at i (place + t) (omega arith)
+        ∙ ap (λ z. z % narrow .modulus)
+        (sum-ext (s .k) _ _ (λ j g. ap₂ _*_ (sym (w .each i j t h unlisted g l)) (ap (λ z. getD symbols z 0) (column j g)))
+        ∙ sym (ap (λ z. sum z (term table (i * s .k) (range 0 (s .k)) (size s) place symbols t)) (range-length 0 (s .k)))
+        ∙ sym (summed .each-sum t l))
+      where
+        column : (j : ℕ) → j < s .k → j * size s + (place + t) ≡ getD (range 0 (s .k)) j 0 * size s + place + t
+        column j g = omega (arith, ap (λ z. z * size s) (range-at 0 (s .k) j g))
+
 module _ (s : Shape) (list symbols : List ℕ) (given : Readable s list symbols) where
   abbrev N : ℕ
   N = size s
@@ -47,13 +69,9 @@ module _ (s : Shape) (list symbols : List ℕ) (given : Readable s list symbols)
   whole : Given narrow s list symbols
   whole = record { code = good; nodes = given .up; count = given .count; small = given .small }
 
-  opened-at : (i p : ℕ) → p < N → opened s list symbols (i * N + p) ≡ weighed narrow s symbols (factor narrow (s .n) list (p % 2 ^ s .n) i) p
-  unfolding opened
-  opened-at i p l = ap₂ (λ x y. weighed narrow s symbols (factor narrow (s .n) list (y % 2 ^ s .n) x) y) (digits-div i l) (digits-mod i l)
-
   -- the data symbols are what they are worked out as
   opened-symbol : (i p : ℕ) → i < s .k → p < N → opened s list symbols (i * N + p) ≡ symbol s (dataOf narrow s list symbols) i p
-  opened-symbol i p h l = opened-at i p l ∙ sym (opened-sum narrow s list good (given .up) (given .count) i p h l .gives symbols (given .long) (given .small))
+  opened-symbol i p h l = opened-at s list symbols i p l ∙ sym (opened-sum narrow s list good (given .up) (given .count) i p h l .gives symbols (given .long) (given .small))
 
   pub opened-data : (e : ℕ) → e < s .k * size s → opened s list symbols e ≡ getD (dataOf narrow s list symbols) e 0
   opened-data e h =
@@ -62,7 +80,7 @@ module _ (s : Shape) (list symbols : List ℕ) (given : Readable s list symbols)
       ∙ (unfold symbol in ap (λ z. getD (dataOf narrow s list symbols) z 0) (p .whole))
 
   -- a listed node's are handed in
-  opened-listed : (i j p : ℕ) → i < s .k → j < s .k → getD list j 0 ≡ i → p < size s → opened s list symbols (i * size s + p) ≡ getD symbols (j * size s + p) 0
+  pub opened-listed : (i j p : ℕ) → i < s .k → j < s .k → getD list j 0 ≡ i → p < size s → opened s list symbols (i * size s + p) ≡ getD symbols (j * size s + p) 0
   unfolding symbol
   opened-listed i j p h g e l =
       opened-symbol i p h l ∙ opened-restored narrow s list symbols whole (i * N + p) (digits-lt h l)
@@ -139,23 +157,6 @@ module _ (s : Shape) (list symbols : List ℕ) (given : Readable s list symbols)
       sym (opened-data e h) ∙ sym (ap (opened s list symbols) (p .whole)) ∙ opened-listed (e / N) (e / N) (e % N) (p .row) (p .row) own (p .place)
       ∙ ap (λ z. getD symbols z 0) (p .whole)
 
-  -- ---- a node that is not listed, at a run of places
-
-  module _ (place run : ℕ) (fits : place + run ≤ size s) (table : List ℕ) where
-    pub missing-weighed : (i : ℕ) (sums : List ℕ) → i < s .k → member i list ≡ false → Factors s list table place run
-        → Summed run (size s) place (range 0 (s .k)) table (i * s .k) symbols (length (range 0 (s .k))) sums
-        → (t : ℕ) → t < run → opened s list symbols (i * size s + place + t) ≡ getD sums t 0 % narrow .modulus
-    unfolding weighed term symbol
-    missing-weighed i sums h unlisted w summed t l =
-        ap (opened s list symbols) (let z : i * N + place + t ≡ i * N + (place + t) = omega arith in z) ∙ opened-at i (place + t) (omega arith)
-        ∙ ap (λ z. z % narrow .modulus)
-        (sum-ext (s .k) _ _ (λ j g. ap₂ _*_ (sym (w .each i j t h unlisted g l)) (ap (λ z. getD symbols z 0) (column j g)))
-        ∙ sym (ap (λ z. sum z (term table (i * s .k) (range 0 (s .k)) N place symbols t)) (range-length 0 (s .k)))
-        ∙ sym (summed .each-sum t l))
-      where
-        column : (j : ℕ) → j < s .k → j * N + (place + t) ≡ getD (range 0 (s .k)) j 0 * N + place + t
-        column j g = omega (arith, ap (λ z. z * N) (range-at 0 (s .k) j g))
-
   -- the table of a run is that of the run's places in every layer
   pub table-factors : (a run layer : ℕ) (table : List ℕ) → a + run ≤ 2 ^ s .n → Table (s .n) a run list (s .k) table → Factors s list table (layer * 2 ^ s .n + a) run
   table-factors a run layer table h w = record {
@@ -169,7 +170,8 @@ module _ (s : Shape) (list symbols : List ℕ) (given : Readable s list symbols)
 
 -- the listed nodes' symbols can be summed
 pub missing-summable : (s : Shape) (symbols table : List ℕ) (place run i : ℕ) → shapeBad s ≡ false → i < s .k → run ≤ mostPlaces → place + run ≤ size s
-    → length table ≡ tableSize → Low (narrow .modulus) table → length symbols ≡ s .k * size s → Low (narrow .modulus) symbols
+    → length table ≡ tableSize → Low (narrow .modulus) table → length symbols ≡ s .k * size s
+    → ((j t : ℕ) → j < s .k → t < run → getD symbols (j * size s + place + t) 0 < narrow .modulus)
     → Summable run (size s) place (range 0 (s .k)) table (i * s .k) symbols
 missing-summable s symbols table place run i shape h few fits long low whole small = record {
   few = few;
@@ -186,7 +188,9 @@ missing-summable s symbols table place run i shape h few fits long low whole sma
   inside = λ j l.
       let g : j < s .k = omega (arith, range-length 0 (s .k)) in
       omega (arith, ap (λ z. z * size s) (range-at 0 (s .k) j g), whole, row-room (s .k) (size s) j place run g fits);
-  small = λ j t _ _. small .at _;
+  small = λ j t l m.
+      let g : j < s .k = omega (arith, range-length 0 (s .k)) in
+      rw (range-at 0 (s .k) j g, (let z : 0 + j ≡ j = omega arith in z)) (small j t g m);
 }
   where
     shaped : Shaped s

@@ -94,7 +94,7 @@ fn store_bytes(row: &[u16], at: usize, transcript: &mut [u8])
 }
 
 // A row of data symbols, from `at` on, judged and, where they may stand there, stored as far as `room` goes.
-fn open_row(len: usize, room: usize, at: usize, row: &[u16], transcript: &mut [u8]) -> bool
+pub fn open_row(len: usize, room: usize, at: usize, row: &[u16], transcript: &mut [u8]) -> bool
     requires { ⌜ (room ≤ len) × (room ≤ length (now transcript)) ⌝ }
     ensures { λ fit. ⌜ ((D : ℕ → ℕ) → ((t : ℕ) → t < length (now (row .entry)) → D (at + t) ≡ getD (now (row .entry)) t 0) → Walked D len room (InRun at (length (now (row .entry)))) (now (transcript .entry)) (now (transcript .exit)) fit) ⌝ }
 {
@@ -134,7 +134,7 @@ fn open_listed(
 }
 
 // What data node i, which is not listed, holds at a run of places: of the multipliers there and of the k symbols at each place.
-fn missing_row(
+pub fn missing_row(
     s: Shape,
     place: usize,
     run: usize,
@@ -142,7 +142,7 @@ fn missing_row(
     table: &[u16],
     symbols: &[u16],
 ) -> [u16; RUN]
-    requires { ⌜ (shapeBad s ≡ false) × (i < s .k) × (run ≤ mostPlaces) × (place + run ≤ size s) × (length (now table) ≡ tableSize) × Low (narrow .modulus) (now table) × (length (now symbols) ≡ s .k * size s) × Low (narrow .modulus) (now symbols) ⌝ }
+    requires { ⌜ (shapeBad s ≡ false) × (i < s .k) × (run ≤ mostPlaces) × (place + run ≤ size s) × (length (now table) ≡ tableSize) × Low (narrow .modulus) (now table) × (length (now symbols) ≡ s .k * size s) × ((j t : ℕ) → j < s .k → t < run → getD (now symbols) (j * size s + place + t) 0 < narrow .modulus) ⌝ }
     ensures { λ row. ⌜ MissingRow s place run i (now (table .entry)) (now (symbols .entry)) row ⌝ }
 {
     let k = s.k;

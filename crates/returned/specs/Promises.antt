@@ -20,6 +20,8 @@ use Rattle.plan.specs.declared.Planned.{Planned}
 use Rattle.plan.specs.declared.Planned.the-variants as planned
 use Rattle.choosing.specs.declared.Chosen.{Chosen}
 use Rattle.choosing.specs.declared.Chosen.the-variants as chosen
+use Rattle.stretches.specs.declared.Read.{Read}
+use Rattle.stretches.specs.declared.Read.the-variants as read
 
 -- every call but unpack: the promise of the call below holds of an answer, and the number returned is that answer's, which the promise fixes
 pub record Returned {A : Type 0} (numberFor : A → ℕ) (promise : A → Type 0) (number : ℕ) : Type 0 where
@@ -37,8 +39,8 @@ headerFrom n k layers node len hearing = record { shape = shapeOf n k layers; no
 
 -- ---- what a number says beside a refusal
 
--- what check finds, the length of a packed card and that of a plan's text, and the layers chosen stand behind the numbers below this one,
--- which are refusals'
+-- what check finds, the length of a packed card and that of a plan's text, the layers chosen and the symbols read stand behind the numbers
+-- below this one, which are refusals'
 abbrev pub firstFound : ℕ
 firstFound = 256
 
@@ -68,6 +70,11 @@ planReturned (planned.Text long) = firstFound + long
 abbrev pub layersReturned : Chosen → ℕ
 layersReturned (chosen.Refused cause) = numberOf cause
 layersReturned (chosen.Layers layers) = firstFound + layers
+
+-- a refusal's number, or 256 + the count of symbols read (document 02 §2)
+abbrev pub readReturned : Read → ℕ
+readReturned (read.Refused cause) = numberOf cause
+readReturned (read.Symbols count) = firstFound + count
 
 -- ---- unpack
 

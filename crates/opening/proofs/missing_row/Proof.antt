@@ -49,8 +49,8 @@ returns c =
     let summed = rw (c .before .before .before .before .before .size .ensures, c .before .before .before .before .before .before .node-numbers .ensures .1 _ (few s)) at (c .before .before .before .sum-row .ensures) in
     record {
       long = put .long;
-      each = λ list given w unlisted t h.
-          missing-weighed (a .s) list (a .symbols .now) given (a .place) (a .run) (s .pre .3) (a .table .now) (a .i) _ (s .pre .1) unlisted w summed t h
+      each = λ list w unlisted t h.
+          missing-weighed (a .s) list (a .symbols .now) (a .place) (a .run) (s .pre .3) (a .table .now) (a .i) _ (s .pre .1) unlisted w summed t h
           ∙ sym (put .there t h) ∙ ap (λ z. getD (c .before .store .last .1 .1 .1 .1 .0) z 0) (let z : 0 + t ≡ t = omega arith in z);
     }
 
