@@ -7,8 +7,8 @@
  * A buffer is a pointer and its length in elements. A null pointer is allowed only with length 0. A buffer that a call writes (a
  * pointer without const) may overlap no other buffer of the call; buffers that it only reads may overlap each other. Lists of nodes
  * are strictly rising. No call keeps a pointer, allocates memory, or has a state of its own. hmsr_write, hmsr_check, hmsr_restore,
- * hmsr_open, hmsr_first_step and hmsr_repair need less than 72 KB of stack, hmsr_helper_message and hmsr_second_step less than 36 KB, the
- * other calls less than 16 KB, whatever N and the lengths of lists are.
+ * hmsr_open, hmsr_open_stretches, hmsr_first_step and hmsr_repair need less than 72 KB of stack, hmsr_helper_message and hmsr_second_step
+ * less than 36 KB, the other calls less than 16 KB, whatever N and the lengths of lists are.
  *
  * A call returns 0 where it did its work, and otherwise the number of the first cause for which it turned back, except where its
  * comment says so. The causes are judged in the order 1, 2, 11, 3, 4, 9, 13, 5, 12, 7; cards and the plan have orders of their own. Where
@@ -45,19 +45,21 @@ extern "C" {
 /* layers not a multiple of s, where h dead nodes make h+1 = s * 2^m with s odd. */
 #define HMSR_PART_BATCH 3
 
-/* A buffer not of the exact length, an odd count of numbers in a list of pairs, or, outside cards, a transcript length above k * N. */
+/* A buffer not of the exact length, an odd count of numbers in a list of pairs, more than 64 stretches, or, outside cards, a transcript
+ * length above k * N. */
 #define HMSR_WRONG_LENGTH 4
 
-/* A symbol handed in is above 256 (hmsr_repair looks at the helpers' symbols only, hmsr_correct at those of the byte's place). */
+/* A symbol handed in is above 256 (hmsr_repair looks at the helpers' symbols only, hmsr_correct at those of the byte's place,
+ * hmsr_open_stretches at those of the touched columns). */
 #define HMSR_BAD_SYMBOL 5
 
 /* A card, or the input of a plan, malformed; in cards also a transcript length above k * N, or a hearing number above 999999. */
 #define HMSR_MALFORMED 6
 
-/* Opening: the symbols are not those of a transcript of that length. */
+/* Opening: the symbols are not those of a transcript of that length; of stretches: those of a wanted byte are not a byte's. */
 #define HMSR_NO_TRANSCRIPT 7
 
-/* Correcting: the byte's number is not below the transcript's length. */
+/* Correcting: the byte's number is not below the transcript's length. Stretches: one ends past the transcript. */
 #define HMSR_PAST_END 9
 
 /* Choosing layers: no number of layers up to 15 serves every loss in the list. */
@@ -77,11 +79,11 @@ static inline const char *hmsr_refusal_text(size_t number) {
     case HMSR_BAD_SHAPE: return "there must be 3 to 14 nodes, 1 to nodes - 2 data nodes and 1 to 15 layers";
     case HMSR_BAD_NODES: return "the node lists, or the losses, are not as they should be";
     case HMSR_PART_BATCH: return "the number of layers is not a multiple of the layers of a batch";
-    case HMSR_WRONG_LENGTH: return "a buffer is not of the exact length, a list of pairs is odd, or the transcript is too long";
+    case HMSR_WRONG_LENGTH: return "a buffer is not of the exact length, a list of pairs is odd or too long, or the transcript is too long";
     case HMSR_BAD_SYMBOL: return "a symbol is above 256";
     case HMSR_MALFORMED: return "the card or the input is malformed";
     case HMSR_NO_TRANSCRIPT: return "the symbols are not those of a transcript of that length";
-    case HMSR_PAST_END: return "the byte's number is not below the transcript's length";
+    case HMSR_PAST_END: return "the byte, or a stretch, is not within the transcript's length";
     case HMSR_NO_LAYERS: return "no number of layers from 1 to 15 serves every loss in the list";
     case HMSR_BAD_CHANGE: return "the change is not from -255 to 255, or makes no byte of the data symbol";
     case HMSR_BAD_ORDER: return "the transfers are not those of the plan, each once, or one comes before what it waits for";
@@ -160,6 +162,24 @@ size_t hmsr_open(size_t n, size_t k, size_t layers,
                  const uint16_t *symbols, size_t symbols_length,
                  size_t length,
                  uint8_t *transcript, size_t transcript_length);
+
+/* The most stretches of hmsr_open_stretches. */
+#define HMSR_STRETCHES 64
+
+/* Opens stretches of the transcript of `length` bytes from the k * N symbols of k listed nodes: their bytes, joined in the order given, into
+ * a buffer of exactly as many. `stretches` has two numbers for each, start and length, at most HMSR_STRETCHES pairs; they may overlap and
+ * repeat, and a length may be 0. Column c, that is, place c of every node, is touched exactly if it is b % N for a wanted byte b; N numbers
+ * of `columns` are then the touched columns, rising, and zeros behind them. Symbols in other columns have no effect and may be anything.
+ * Where hmsr_open opens the nodes, the bytes are those of its transcript. Returns a refusal number, below 256; or 256 + k * the count of
+ * touched columns. Turns back with 1, 2, 4, 9, 5, 7, judged in this order: 4 also for an odd count of numbers, 9 also for an empty stretch
+ * that starts behind the end; 5 looks at the touched columns alone, and 7 at the wanted bytes. */
+size_t hmsr_open_stretches(size_t n, size_t k, size_t layers,
+                           const size_t *list, size_t list_length,
+                           const uint16_t *symbols, size_t symbols_length,
+                           size_t length,
+                           const size_t *stretches, size_t stretches_length,
+                           uint8_t *bytes, size_t bytes_length,
+                           size_t *columns, size_t columns_length);
 
 /* Corrects byte number `byte` of a transcript of `length` bytes in n * N symbols, by a change from -255 to 255. At the byte's place,
  * byte % N, its own symbol, on node byte / N, changes by the change, and that of each check node, k to n-1, by the change times a factor,

@@ -1,8 +1,8 @@
 #!/usr/bin/env python3
 """What rust/tests/stored.rs must make of the samples of document 01 ("Samples on both edges"), its numbers written down,
 of a card with a hearing number (document 02 §9), worked out by hand, of lists of losses (document 02 §6), by its
-sentences and by hand, and of orders of document 01's plan (document 02 §12) and corrections of its first archive (§10), by
-hand.
+sentences and by hand, and of orders of document 01's plan (document 02 §12), and corrections (§10) and stretches (§2) of its
+first archive, by hand.
 
     python3 tests/samples_expected.py > tests/stored/samples.txt
 
@@ -72,3 +72,24 @@ show(0, 3, 3, *ZEROS, 253, 252, *ZEROS, 1, 2, *ZEROS)
 show(9, 12, 12, 12, 12, 5, 9)
 # a data symbol 256 at place 0: by -1 it is 255, by 0 and by -256 it is refused
 show(0, 12, 12)
+# stretches of the archive of bytes 3 6 (document 02 §2): what the C call returns, the bytes, then the 8 columns. Node 1 is handed in as
+# 253 247, node 2 as 1 4, each with 65535 in the six columns that neither byte stands in. From node 1, byte 1, then both, then none
+# from the end on: 256 + 1 * 2
+show(258, 6, 3, 6, 0, 1, *ZEROS)
+# from node 2, byte 1 alone, and no stretch at all
+show(257, 6, 1, *[0] * 7)
+show(256, *[0] * 8)
+# byte 0 of node 1 holding 87, which is a data symbol 256, gives 7; byte 1 beside it does not
+show(7, 9, *[9] * 8)
+show(257, 6, 1, *[0] * 7)
+# 257 in node 1's first column gives 5 where byte 0 is wanted, and nothing where byte 1 is
+show(5, 9, *[9] * 8)
+show(257, 6, 1, *[0] * 7)
+# the numbers alone: 64 empty stretches at the end, 65 of them; one number left over; bytes 0 and 1 into one byte's room; two lengths 2^63
+# into none; a length of 9, above k * N, though the stretch ends past that too
+show(256, 4, 4, 4, 4, 4)
+# 9: bytes 1 and 2 of 2; an empty stretch from 3 on; one of 2 bytes from 2^64 - 1 on, whose end wraps to 1; and before 5, with 257 at
+# byte 0
+show(9, 9, 9, 9)
+# 1 comes before 2, and that before 4: no layers, then node 3, then an odd count
+show(1, 2, 4)

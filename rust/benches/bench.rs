@@ -4,14 +4,15 @@
 //! the call over its time: k × N bytes where the call works on the whole archive, N where it works on one node.
 //! "ratio" is the naive implementation's time over the library's. All calls are measured in five rounds, one behind the
 //! other, and each number is the median of its five. Below stand the whole repairs once more: what they put on the new
-//! drives, and the bytes that they send; and the corrections of one byte, beside writing the archive afresh.
+//! drives, and the bytes that they send; the corrections of one byte, beside writing the archive afresh; and stretches,
+//! beside opening the whole transcript from the same nodes.
 
 #[path = "../tests/naive/mod.rs"]
 mod naive;
 
 use hmsr::{Refusal, Repair, Shape};
 use naive::random::Random;
-use naive::{Correction, Lists};
+use naive::{Correction, Lists, Wanted};
 use std::hint::black_box;
 use std::time::{Duration, Instant};
 
@@ -26,9 +27,15 @@ const LOSS_COUNTS: [usize; 2] = [12, 1_000_000];
 const ORDERED: [(usize, usize, usize, usize); 2] = [(14, 1, 13, 12), (12, 6, 15, 3)];
 /// The numbers of a list that is no plan's.
 const LONG_LIST: usize = 1_000_000;
+/// The archive of which stretches are opened, and how many stretches of how many bytes: a byte, an exhibit, as many
+/// exhibits as can be, and the whole transcript.
+const STRETCHED: (usize, usize, usize) = (12, 8, 15);
+const STRETCHES: [(usize, usize); 4] = [(1, 1), (1, 200), (64, 200), (1, 491_520)];
 /// The names of two calls that are put beside one another.
 const WRITE: &str = "write";
 const CORRECT: &str = "correct";
+/// What is in the name of stretches, behind that of opening the whole transcript.
+const TIMES: char = '×';
 const ROUNDS: usize = 5;
 
 /// A line of a round goes on until it has so many runs of each side, or else the least number and this time.
@@ -69,11 +76,11 @@ impl Line {
         println!("{:<36}{rate:>12.2}{:>12}", self.name, self.sent);
     }
 
-    /// The time of one correction, and that of writing the same archive over it, round by round.
-    fn print_correction(&self, written: &Line) {
+    /// The time of one call, and that of another call of the library over it, round by round.
+    fn print_beside(&self, other: &Line, digits: usize) {
         let time = 1e9 * median(self.library.clone());
-        let ratio = median(self.library.iter().zip(&written.library).map(|(correct, write)| write / correct).collect());
-        println!("{:<36}{time:>12.2}{ratio:>12.0}", self.name);
+        let ratio = median(self.library.iter().zip(&other.library).map(|(own, other)| other / own).collect());
+        println!("{:<36}{time:>12.2}{ratio:>12.digits$}", self.name);
     }
 }
 
@@ -103,12 +110,24 @@ impl Table {
         self.lines.iter_mut().filter(|line| line.name == name).for_each(|line| line.sent = bytes);
     }
 
+    /// The line of that name.
+    fn of(&self, name: &str) -> Option<&Line> {
+        self.lines.iter().find(|line| line.name == name)
+    }
+
     /// The lines of corrections, each with that of writing the same archive.
     fn corrections(&self) -> impl Iterator<Item = (&Line, &Line)> {
-        let of = |name: String| self.lines.iter().find(move |line| line.name == name);
-        self.lines.iter().filter_map(move |line| {
+        self.lines.iter().filter_map(|line| {
             let shape = line.name.strip_suffix(CORRECT)?;
-            of(format!("{shape}{WRITE}")).map(|written| (line, written))
+            self.of(&format!("{shape}{WRITE}")).map(|written| (line, written))
+        })
+    }
+
+    /// The lines of stretches, each with that of opening the whole transcript from the same nodes.
+    fn stretches(&self) -> impl Iterator<Item = (&Line, &Line)> {
+        self.lines.iter().filter_map(|line| {
+            let (open, stretches) = line.name.rsplit_once(' ')?;
+            self.of(open).filter(|_| stretches.contains(TIMES)).map(|opened| (line, opened))
         })
     }
 
@@ -118,9 +137,9 @@ impl Table {
         println!("{:<36}{:>12}{:>12}", "whole repairs", "drives MB/s", "line bytes");
         self.lines.iter().filter(|line| line.sent != 0).for_each(Line::print_repair);
         println!("{:<36}{:>12}{:>12}", "corrections", "ns", "write ratio");
-        for (correct, write) in self.corrections() {
-            correct.print_correction(write);
-        }
+        self.corrections().for_each(|(correct, write)| correct.print_beside(write, 0));
+        println!("{:<36}{:>12}{:>12}", "stretches, count × bytes", "ns", "open ratio");
+        self.stretches().for_each(|(stretches, open)| stretches.print_beside(open, 2));
         let slower: Vec<String> =
             self.lines.iter().filter(|line| line.ratio() < 1.0).map(|line| line.name.clone()).collect();
         println!("Ratio below 1: {}.", if slower.is_empty() { "none".to_string() } else { slower.join(", ") });
@@ -217,18 +236,62 @@ fn bench_code(table: &mut Table, written: &Written) {
         || shape.restore(&list, black_box(symbols), &mut out).unwrap(),
         || naive::restore(*plain, &list, black_box(symbols), all).unwrap(),
     );
-    // And the data nodes themselves, of which nothing is worked out.
-    let first: Vec<usize> = (0..plain.k).collect();
-    for (call, list, symbols) in [("open", &list, symbols), ("open data nodes", &first, &nodes[..capacity])] {
+    bench_open(table, written);
+}
+
+/// The names of opening from the last k nodes, and from the data nodes themselves, of which nothing is worked out; with
+/// the nodes and where their symbols start.
+fn sources(plain: naive::Shape) -> [(&'static str, Vec<usize>, usize); 2] {
+    let (size, last) = (plain.symbols(), plain.n - plain.k);
+    [("open", (last..plain.n).collect(), last * size), ("open data nodes", (0..plain.k).collect(), 0)]
+}
+
+fn bench_open(table: &mut Table, written: &Written) {
+    let Written { shape, plain, transcript, nodes } = written;
+    let capacity = plain.capacity();
+    for (call, list, start) in sources(*plain) {
+        let symbols = &nodes[start..start + capacity];
         let mut bytes = vec![0; capacity];
         table.line(
             written.name(call),
             capacity,
             capacity,
-            || shape.open(list, black_box(symbols), capacity, &mut bytes).unwrap(),
-            || naive::open(*plain, list, black_box(symbols), capacity, capacity).unwrap(),
+            || shape.open(&list, black_box(symbols), capacity, &mut bytes).unwrap(),
+            || naive::open(*plain, &list, black_box(symbols), capacity, capacity).unwrap(),
         );
         assert_eq!(&bytes, transcript);
+    }
+}
+
+/// A "symbol" of stretches is a wanted byte, and these bytes are the transcript behind them. They start anywhere.
+fn bench_stretches(table: &mut Table, written: &Written, (count, length): (usize, usize)) {
+    let Written { shape, plain, transcript, nodes } = written;
+    let capacity = plain.capacity();
+    let mut random = Random::new(1);
+    let starts: Vec<usize> = (0..count).map(|_| random.between(0, capacity - length)).collect();
+    let stretches: Vec<_> = starts.iter().map(|&start| start..start + length).collect();
+    for (call, list, first) in sources(*plain) {
+        let wanted = Wanted {
+            shape: *plain,
+            list,
+            symbols: nodes[first..first + capacity].to_vec(),
+            length: capacity,
+            numbers: starts.iter().flat_map(|&start| [start, length]).collect(),
+            bytes_length: count * length,
+            columns_length: plain.symbols(),
+        };
+        let (mut bytes, mut columns) = (vec![0; wanted.bytes_length], vec![0; wanted.columns_length]);
+        table.line(
+            written.name(&format!("{call} {count}{TIMES}{length}")),
+            count * length,
+            count * length,
+            || {
+                let symbols = black_box(&wanted.symbols);
+                shape.open_stretches(&wanted.list, symbols, capacity, &stretches, &mut bytes, &mut columns).unwrap()
+            },
+            || naive::open_stretches(black_box(&wanted)).unwrap(),
+        );
+        assert!(stretches.iter().flat_map(|stretch| &transcript[stretch.clone()]).eq(&bytes));
     }
 }
 
@@ -437,6 +500,13 @@ fn bench_shape(table: &mut Table, shape: (usize, usize, usize), dead_counts: &[u
     bench_cards(table, &written);
 }
 
+/// Opening the whole transcript, and stretches of it.
+fn bench_stretched(table: &mut Table) {
+    let written = Written::new(STRETCHED);
+    bench_open(table, &written);
+    STRETCHES.into_iter().for_each(|stretches| bench_stretches(table, &written, stretches));
+}
+
 fn main() {
     let mut table = Table { lines: Vec::new() };
     for _ in 0..ROUNDS {
@@ -444,6 +514,7 @@ fn main() {
             bench_shape(&mut table, shape, &DEAD_COUNTS);
         }
         bench_shape(&mut table, LARGEST, &LARGEST_DEAD_COUNTS);
+        bench_stretched(&mut table);
         LOSS_COUNTS.iter().for_each(|&count| bench_layers(&mut table, count));
         bench_orders(&mut table);
     }

@@ -19,6 +19,11 @@ extern "C" {
         n: usize, k: usize, layers: usize, list: *const usize, list_len: usize, symbols: *const u16,
         symbols_len: usize, length: usize, transcript: *mut u8, transcript_len: usize,
     ) -> usize;
+    fn hmsr_open_stretches(
+        n: usize, k: usize, layers: usize, list: *const usize, list_len: usize, symbols: *const u16,
+        symbols_len: usize, length: usize, stretches: *const usize, stretches_len: usize, bytes: *mut u8,
+        bytes_len: usize, columns: *mut usize, columns_len: usize,
+    ) -> usize;
     fn hmsr_correct(
         n: usize, k: usize, layers: usize, nodes: *mut u16, nodes_len: usize, length: usize, byte: usize, change: i64,
     ) -> usize;
@@ -99,6 +104,31 @@ pub(crate) fn open(s: Shape, list: &[usize], symbols: &[u16], length: usize, tra
             length,
             transcript.as_mut_ptr(),
             transcript.len(),
+        )
+    }
+}
+
+pub(crate) fn open_stretches(
+    s: Shape, list: &[usize], symbols: &[u16], length: usize, stretches: &[usize], bytes: &mut [u8],
+    columns: &mut [usize],
+) -> usize {
+    // SAFETY: see the top of this file.
+    unsafe {
+        hmsr_open_stretches(
+            s.nodes,
+            s.data,
+            s.layers,
+            list.as_ptr(),
+            list.len(),
+            symbols.as_ptr(),
+            symbols.len(),
+            length,
+            stretches.as_ptr(),
+            stretches.len(),
+            bytes.as_mut_ptr(),
+            bytes.len(),
+            columns.as_mut_ptr(),
+            columns.len(),
         )
     }
 }

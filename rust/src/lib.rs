@@ -32,6 +32,7 @@ mod plan;
 mod refusal;
 mod repair;
 mod shape;
+mod stretches;
 
 pub use card::{unpack, unpack_into, unpack_to_vec, Header};
 pub use code::Checked;
@@ -39,3 +40,4 @@ pub use plan::{plan, plan_text, PLAN_TEXT};
 pub use refusal::Refusal;
 pub use repair::{FirstStep, Repair};
 pub use shape::Shape;
+pub use stretches::{Stretches, MOST_STRETCHES};

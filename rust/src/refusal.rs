@@ -12,15 +12,16 @@ pub enum Refusal {
     BadNodes = 2,
     /// The number of layers is not a multiple of the layers of a batch.
     PartBatch = 3,
-    /// A buffer not of the exact length, an odd count of numbers in a list of pairs, or a transcript too long.
+    /// A buffer not of the exact length, an odd count of numbers in a list of pairs, more than 64 stretches, or a
+    /// transcript too long.
     WrongLength = 4,
     /// A symbol handed in is above 256.
     BadSymbol = 5,
     /// A card or the plan's input is malformed; or a card's transcript is too long, or its hearing number above 999 999.
     Malformed = 6,
-    /// The symbols are not those of a transcript of that length.
+    /// The symbols are not those of a transcript of that length; of stretches: those of a wanted byte are not a byte's.
     NoTranscript = 7,
-    /// The byte's number is not below the transcript's length.
+    /// The byte's number is not below the transcript's length, or a stretch ends past it.
     PastEnd = 9,
     /// No number of layers up to 15 serves every loss in the list.
     NoLayers = 11,
@@ -78,12 +79,12 @@ impl fmt::Display for Refusal {
             Refusal::BadNodes => "the node lists, or the losses, are not as they should be",
             Refusal::PartBatch => "the number of layers is not a multiple of the layers of a batch",
             Refusal::WrongLength => {
-                "a buffer is not of the exact length, a list of pairs is odd, or the transcript is too long"
+                "a buffer is not of the exact length, a list of pairs is odd or too long, or the transcript is too long"
             }
             Refusal::BadSymbol => "a symbol is above 256",
             Refusal::Malformed => "the card or the input is malformed",
             Refusal::NoTranscript => "the symbols are not those of a transcript of that length",
-            Refusal::PastEnd => "the byte's number is not below the transcript's length",
+            Refusal::PastEnd => "the byte, or a stretch, is not within the transcript's length",
             Refusal::NoLayers => "no number of layers from 1 to 15 serves every loss in the list",
             Refusal::BadChange => "the change is not from -255 to 255, or makes no byte of the data symbol",
             Refusal::BadOrder => {

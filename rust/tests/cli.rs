@@ -36,6 +36,8 @@ mod place;
 mod reading;
 #[path = "cli/rules.rs"]
 mod rules;
+#[path = "cli/stretches.rs"]
+mod stretches;
 #[path = "cli/traffic.rs"]
 mod traffic;
 #[path = "cli/wrong.rs"]
@@ -273,7 +275,8 @@ fn a_full_disk_leaves_nothing_behind() {
     place.lose("drives", &[2]);
     place.truncate("drives", 4);
     let before = place.contents();
-    for line in ["write transcript new --nodes 6 --data 3", "repair drives", "open drives opened"] {
+    let opening = "open drives opened --stretch 0..9";
+    for line in ["write transcript new --nodes 6 --data 3", "repair drives", "open drives opened", opening] {
         let output = place.run_with_limit(&line.split(' ').collect::<Vec<_>>(), "-f 0");
         place.turned_back(line, &output, IO, &["cannot write"]);
         assert!(place.contents() == before, "{line}");
@@ -298,6 +301,7 @@ fn a_place_without_cards_is_refused() {
         ("correct bare --at 0 --from 0 --to 1", LOST, "bare holds no cards"),
         ("check nothing", IO, "cannot read the directory nothing"),
         ("open nothing opened", IO, "cannot read the directory nothing"),
+        ("open nothing opened --stretch 0..1", IO, "cannot read the directory nothing"),
         ("repair transcript", IO, "cannot read the directory transcript"),
         ("correct nothing --at 0 --from 0 --to 1", IO, "cannot read the directory nothing"),
         ("correct transcript --at 0 --from 0 --to 1", IO, "cannot read the directory transcript"),

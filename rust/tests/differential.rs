@@ -681,7 +681,53 @@ fn correct() {
     });
 }
 
-/// The ends of the range of shapes, with fifteen layers: written, checked, restored, opened, corrected, repaired, packed.
+/// Mostly small archives: what has to be right about a stretch is where its ends are.
+fn stretched_shape(random: &mut Random) -> Shape {
+    if random.once_in(6) {
+        return random_shape(random);
+    }
+    let n = random.choose(&[3, 3, 4, 4, 5, 6]);
+    Shape { n, k: random.between(1, n - 2), layers: random.choose(&[1, 1, 2, 3, 15]) }
+}
+
+/// Stretches that are accepted, or of which a byte is 256; then wrong in up to two ways.
+#[test]
+fn open_stretches() {
+    try_cases(20000, &[0, 1, 2, 4, 5, 7, 9], |random| {
+        let shape = stretched_shape(random);
+        let mut wanted = random.wanted(shape);
+        if random.once_in(8) {
+            random.want_no_byte(&mut wanted);
+        }
+        for _ in 0..random.below(3) {
+            random.spoil_wanted(shape, &mut wanted);
+        }
+        compare::open_stretches(random, &wanted)
+    });
+}
+
+#[test]
+fn open_stretches_from_every_list() {
+    let mut tally = [0; 10];
+    for (n, list) in every_list() {
+        println!("{list:?} of {n} nodes");
+        for seed in 1..=3 {
+            let seed = Seed(seed);
+            let random = &mut Random::new(seed.0);
+            let shape = Shape { n, k: list.len(), layers: random.between(1, 3) };
+            let mut wanted = random.wanted_from(shape, list.clone());
+            if random.once_in(3) {
+                random.want_no_byte(&mut wanted);
+            }
+            tally[compare::open_stretches(random, &wanted)] += 1;
+        }
+    }
+    println!("numbers 0 to 9 came up {tally:?}");
+    assert!(tally[0] > 100 && tally[7] > 100 && tally[0] + tally[7] == tally.iter().sum::<usize>());
+}
+
+/// The ends of the range of shapes, with fifteen layers: written, checked, restored, opened, whole and in stretches,
+/// corrected, repaired, packed.
 #[test]
 fn largest_shapes() {
     let mut random = Random::new(1);
@@ -696,6 +742,8 @@ fn largest_shapes() {
         let symbols = symbols_of(shape, &nodes, &list);
         assert_eq!(compare::restore(&mut random, shape, &list, &symbols, all), 0);
         assert_eq!(compare::open(&mut random, shape, &list, &symbols, transcript.len(), transcript.len()), 0);
+        let wanted = random.wanted(shape);
+        assert_eq!(compare::open_stretches(&mut random, &wanted), 0);
         for (byte, length) in [(0, 1), (size - 1, size), (shape.capacity() - 1, shape.capacity())] {
             let change = i64::from(random.bytes(1)[0]) - i64::from(transcript[byte]);
             let correction = Correction { shape, nodes: nodes.clone(), length, byte, change };

@@ -1,6 +1,6 @@
-//! Random and mutated cards, what is packed into them, plan inputs, lists of losses, orders of transfers, and corrections,
-//! library beside naive implementation, for as many seconds each as the environment's HMSR_FUZZ_SECONDS says (3 if it says
-//! nothing). HMSR_SEED=.. makes another series of inputs.
+//! Random and mutated cards, what is packed into them, plan inputs, lists of losses, orders of transfers, corrections,
+//! and stretches, library beside naive implementation, for as many seconds each as the environment's HMSR_FUZZ_SECONDS
+//! says (3 if it says nothing). HMSR_SEED=.. makes another series of inputs.
 
 #[path = "naive/compare.rs"]
 mod compare;
@@ -8,7 +8,7 @@ mod naive;
 
 use naive::card::starts_with_1;
 use naive::random::Random;
-use naive::{Correction, Header, Lists, Shape};
+use naive::{Correction, Header, Lists, Shape, Wanted};
 use std::fmt::Debug;
 use std::time::{Duration, Instant};
 
@@ -322,6 +322,47 @@ fn correction(random: &mut Random) -> Correction {
 fn corrections() {
     let tally = fuzz(correction, |_, correction| compare::correct(correction));
     for number in [0, 1, 4, 5, 9, 12] {
+        assert!(tally[number] > 0, "number {number} never came up");
+    }
+}
+
+/// Puts other numbers or symbols in place of some that are given.
+fn mutate_wanted(random: &mut Random, wanted: &mut Wanted) {
+    let Wanted { list, symbols, length, numbers, bytes_length, columns_length, .. } = wanted;
+    let (at, near) = (random.below(symbols.len().max(1)), random.below(symbols.len() + 2));
+    let (far, bit) = (number(random), 1 << random.below(64));
+    match random.below(12) {
+        0..=3 => mutate_numbers(random, numbers),
+        4 => mutate_numbers(random, list),
+        5 => *length = random.choose(&[near, near, far, *length ^ bit]),
+        6 => *bytes_length = near,
+        7 => *columns_length = near,
+        8 => random.spoil_symbols(symbols),
+        9 if at < symbols.len() => symbols[at] ^= 1 << random.below(16),
+        10 => symbols.resize(random.choose(&[at, near]), 256),
+        _ => wanted.shape.k = random.choose(&[near, far]),
+    }
+}
+
+/// A small archive's stretches, wrong or not, and then up to three changes of all that is given.
+fn stretches(random: &mut Random) -> Wanted {
+    let shape = random.small_header().shape;
+    let mut wanted = random.wanted(shape);
+    match random.below(8) {
+        0 => random.want_no_byte(&mut wanted),
+        1 | 2 => random.spoil_wanted(shape, &mut wanted),
+        _ => {}
+    }
+    for _ in 0..random.choose(&[0, 1, 1, 2, 3]) {
+        mutate_wanted(random, &mut wanted);
+    }
+    wanted
+}
+
+#[test]
+fn many_stretches() {
+    let tally = fuzz(stretches, compare::open_stretches);
+    for number in [0, 1, 2, 4, 5, 7, 9] {
         assert!(tally[number] > 0, "number {number} never came up");
     }
 }

@@ -30,6 +30,7 @@ fn assert_header(output: &str) {
     assert_cards(&mut lines);
     assert_eq!(lines.next(), Some(LAYERS));
     assert_eq!(lines.next(), Some(ORDERS));
+    assert_stretches(&mut lines);
     assert_corrections(&mut lines);
     for number in numbers() {
         assert_eq!(lines.next(), Some(text(number).as_str()), "the text of {number}");
@@ -53,7 +54,7 @@ fn assert_constants(lines: &mut Lines) {
     for (cause, number) in Refusal::ALL.into_iter().zip([1, 2, 3, 4, 5, 6, 7, 9, 11, 12, 13]) {
         assert_eq!(lines.next(), Some(format!("{cause:?} {number}").as_str()));
     }
-    assert_eq!(lines.next(), Some(format!("6 {}", hmsr::PLAN_TEXT).as_str()));
+    assert_eq!(lines.next(), Some(format!("6 {} {}", hmsr::PLAN_TEXT, hmsr::MOST_STRETCHES).as_str()));
 }
 
 /// What choosing layers gives (document 02 §6): 256 and 15 for losses of 2 and 4 nodes, either first, and 1 for no losses,
@@ -64,6 +65,31 @@ const LAYERS: &str = "271 271 257 257 267 11 2 2 1";
 /// behind, with an exchange before a message to its sender, and for no transfers, with a null pointer; then the refusals 4,
 /// 3, 2 and 1.
 const ORDERS: &str = "orders: 0 13 13 13 13 4 3 2 1";
+
+/// Stretches of document 01's first archive (document 02 §2), from its node 2: what is returned, the bytes / the
+/// columns. Byte 1, both, and none behind them; byte 1 alone; no stretch, with null pointers; byte 1 where byte 0 is
+/// 256, and then 7 for both. 64 stretches without bytes. Then 4 for 65 of them, for an odd count and for lengths whose
+/// sum wraps, 9 for an end that wraps, 4 for a length of 9, 9 for an empty stretch behind the end, though a symbol is
+/// 257, and without it 5.
+fn assert_stretches(lines: &mut Lines) {
+    for line in [
+        "258: 6 3 6 / 0 1 0 0 0 0 0 0",
+        "257: 6 / 1 0 0 0 0 0 0 0",
+        "256: / 0 0 0 0 0 0 0 0",
+        "257: 6 / 1 0 0 0 0 0 0 0",
+        "7: 9 9 9 / 9 9 9 9 9 9 9 9",
+        "256: / 0 0 0 0 0 0 0 0",
+        "4: / 9 9 9 9 9 9 9 9",
+        "4: 9 9 / 9 9 9 9 9 9 9 9",
+        "4: 9 / 9 9 9 9 9 9 9 9",
+        "9: 9 9 / 9 9 9 9 9 9 9 9",
+        "4: 9 9 / 9 9 9 9 9 9 9 9",
+        "9: 9 9 / 9 9 9 9 9 9 9 9",
+        "5: 9 9 / 9 9 9 9 9 9 9 9",
+    ] {
+        assert_eq!(lines.next(), Some(line));
+    }
+}
 
 /// Corrections of document 01's first archive (document 02 §10): what is returned, and the symbols of place 1 afterwards. By
 /// -3, to what writing 3 3 gives, and back, by the ends of the range from 0 and from 255, and by nothing. Then 12 for

@@ -1,8 +1,9 @@
 //! Every cause of every call, alone and with each other cause: the number of the one that document 01 judges first, and
-//! every lent buffer as it was. The numbers here are written out from document 01, and from document 02, §6 for lists of
-//! losses, §9 for hearing numbers, §10 for corrections and §12 for orders of transfers.
+//! every lent buffer as it was. The numbers here are written out from document 01, and from document 02, §2 for
+//! stretches, §6 for lists of losses, §9 for hearing numbers, §10 for corrections and §12 for orders of transfers.
 
 mod naive;
+mod raw;
 
 use hmsr::{Checked, Header, Refusal, Repair, Shape};
 use naive::lent::Lent;
@@ -389,6 +390,110 @@ fn correct() {
         let mut nodes = Lent::around(&i.symbols);
         judged(i.shape.correct(nodes.slice(), i.length, i.byte, i.change), [nodes])
     });
+}
+
+/// Bytes 3 and 4, 190 to 193, of which the last two stand on node 1, the last byte, 299, and none behind it.
+const STRETCHES: [usize; 8] = [3, 2, 190, 4, 299, 1, 300, 0];
+const STRETCH_BYTES: usize = 7;
+/// The touched columns, and what data nodes 0 and 1 have there: the wanted byte 7 and, not looked at, 256.
+const TOUCHED: [(usize, [u16; 2]); 7] =
+    [(0, [256, 7]), (1, [256, 7]), (3, [7, 256]), (4, [7, 256]), (107, [256, 7]), (190, [7, 256]), (191, [7, 256])];
+
+/// Numbers of stretches: most have places of their own, so that they can be there together. The buffer for the bytes,
+/// one longer or shorter, fits none of these.
+const STRETCHES_LENGTH: &[Cause] = &[
+    ("one number short", 4, |i| shrink(&mut i.pairs)),
+    ("one number more", 4, |i| grow(&mut i.pairs)),
+    ("one number alone", 4, |i| i.pairs = vec![0]),
+    ("65 stretches", 4, |i| i.pairs.resize(2 * 65, 0)),
+    ("66 stretches", 4, |i| i.pairs.resize(2 * 66, 0)),
+    ("2^32 bytes more", 4, |i| put(&mut i.pairs, 1, (1 << 32) + 2)),
+    ("three bytes more", 4, |i| put(&mut i.pairs, 3, 7)),
+    ("the largest number of bytes behind the end", 4, |i| put(&mut i.pairs, 7, usize::MAX)),
+    ("lengths of which the sum wraps to the buffer's", 4, |i| {
+        put(&mut i.pairs, 1, (1 << 63) + 2);
+        put(&mut i.pairs, 3, (1 << 63) + 4);
+    }),
+    ("a length of -1, and two bytes more", 4, |i| {
+        put(&mut i.pairs, 5, usize::MAX);
+        put(&mut i.pairs, 7, 2);
+    }),
+];
+
+/// "9, a stretch ends past the transcript": as many bytes are wanted as before.
+const STRETCH_PAST_END: &[Cause] = &[
+    ("length one less", 9, |i| i.length = 299),
+    ("length 0", 9, |i| i.length = 0),
+    ("a stretch starts two bytes before the end", 9, |i| put(&mut i.pairs, 2, 298)),
+    ("a stretch starts at the end", 9, |i| put(&mut i.pairs, 4, 300)),
+    ("an empty stretch starts behind the end", 9, |i| put(&mut i.pairs, 6, 301)),
+    ("a byte more at the end, and one less before", 9, |i| {
+        put(&mut i.pairs, 1, 1);
+        put(&mut i.pairs, 5, 2);
+    }),
+    ("the start k × N", 9, |i| put(&mut i.pairs, 4, CAPACITY)),
+    ("the start 2^32 + 3", 9, |i| put(&mut i.pairs, 0, (1 << 32) + 3)),
+    ("the start 2^63 + 190", 9, |i| put(&mut i.pairs, 2, (1 << 63) + 190)),
+    ("the end wraps to 0", 9, |i| put(&mut i.pairs, 0, usize::MAX - 1)),
+    ("the end wraps to 3", 9, |i| put(&mut i.pairs, 2, usize::MAX)),
+    ("an empty stretch starts at the largest number", 9, |i| put(&mut i.pairs, 6, usize::MAX)),
+];
+
+/// "Number 5 here looks only at touched columns", but at all k symbols there, whichever node the byte stands on.
+const TOUCHED_SYMBOLS: &[Cause] = &[
+    ("257 in the first touched column of node 0", 5, |i| put(&mut i.symbols, 0, 257)),
+    ("512 in the first touched column of node 3", 5, |i| put(&mut i.symbols, N, 512)),
+    ("513 at the last byte's place of node 0", 5, |i| put(&mut i.symbols, 107, 513)),
+    ("32768 at place 4 of node 3", 5, |i| put(&mut i.symbols, N + 4, 32768)),
+    ("65535 in the last touched column of node 3", 5, |i| put(&mut i.symbols, N + 191, 65535)),
+];
+
+/// "And 7 only at wanted bytes": node 0 is handed in, node 1 worked out.
+const WANTED_BYTES: &[Cause] = &[
+    ("byte 3 is 256", 7, |i| put_data(i, 3, [256, 0])),
+    ("byte 190 is 256", 7, |i| put_data(i, 190, [256, 256])),
+    ("byte 193, on node 1, is 256", 7, |i| put_data(i, 1, [0, 256])),
+    ("the last byte, on node 1, is 256", 7, |i| put_data(i, 107, [7, 256])),
+];
+
+/// Puts symbols on data nodes 0 and 1 at a place, by those that nodes 0 and 3 then have there.
+fn put_data(i: &mut Input, place: usize, symbols: [u16; 2]) {
+    let shape = naive::Shape { n: 6, k: 2, layers: 3 };
+    let mut data = vec![0; CAPACITY];
+    (data[place], data[N + place]) = (symbols[0], symbols[1]);
+    let column = naive::stretches::column(shape, &[0, 1], &data, place);
+    put(&mut i.symbols, place, column[0]);
+    put(&mut i.symbols, N + place, column[3]);
+}
+
+/// All symbols are 65535 but those of the touched columns.
+fn accepted_stretches() -> Input {
+    let mut input = accepted(vec![65535; CAPACITY], STRETCH_BYTES);
+    TOUCHED.into_iter().for_each(|(place, symbols)| put_data(&mut input, place, symbols));
+    Input { length: 300, pairs: STRETCHES.to_vec(), lent_too: N, ..input }
+}
+
+/// What the C call returns, 0 for what is accepted.
+fn stretches_number(i: &Input) -> usize {
+    let (mut bytes, mut columns) = (Lent::bytes(&mut Random::new(1), i.lent), Lent::numbers(i.lent_too));
+    let lent = (bytes.slice(), columns.slice());
+    let number = raw::open_stretches(i.shape, &i.list, &i.symbols, i.length, &i.pairs, lent.0, lent.1);
+    if number < 256 {
+        bytes.assert_holds(&[]);
+        columns.assert_holds(&[]);
+        return number;
+    }
+    assert_eq!(number, 256 + 2 * TOUCHED.len());
+    bytes.assert_holds(&[7; STRETCH_BYTES]);
+    columns.assert_holds(&[&TOUCHED.map(|(place, _)| place)[..], &[0; N - TOUCHED.len()]].concat());
+    0
+}
+
+#[test]
+fn open_stretches() {
+    let lengths = [SYMBOLS_LENGTH, LENT_LENGTH, LENT_TOO_LENGTH, CORRECTED_LENGTH, STRETCHES_LENGTH].concat();
+    let causes = [SHAPE, LIST, &lengths, STRETCH_PAST_END, TOUCHED_SYMBOLS, WANTED_BYTES];
+    try_causes(accepted_stretches(), &in_order(&causes), stretches_number);
 }
 
 #[test]

@@ -5,7 +5,7 @@
 
 mod naive;
 
-use hmsr::{unpack, Checked, Header, Refusal, Shape};
+use hmsr::{unpack, Checked, Header, Refusal, Shape, MOST_STRETCHES};
 use naive::Lists;
 use std::thread;
 
@@ -100,6 +100,27 @@ fn opened() {
         let mut transcript = vec![7; archive.transcript.len()];
         with_little_stack("open", || shape.open(&list, symbols, archive.transcript.len(), &mut transcript));
         assert!(transcript == archive.transcript);
+    }
+}
+
+/// The whole transcript, and as many stretches as can be, of which each has more than a node's bytes.
+#[test]
+fn opened_in_stretches() {
+    for shape in SHAPES {
+        let archive = Archive::write(shape);
+        let (list, symbols) = (archive.last_nodes(), archive.last_symbols());
+        let (length, size) = (archive.transcript.len(), shape.node_symbols().unwrap());
+        let many: Vec<_> = (0..MOST_STRETCHES).map(|at| 3 * at..3 * at + size + 1).collect();
+        let whole = 0..length;
+        for stretches in [vec![whole], many] {
+            let expected: Vec<u8> = stretches.iter().flat_map(|s| &archive.transcript[s.clone()]).copied().collect();
+            let (mut bytes, mut columns) = (vec![7; expected.len()], vec![7; size]);
+            let read = with_little_stack("open_stretches", || {
+                shape.open_stretches(&list, symbols, length, &stretches, &mut bytes, &mut columns)
+            });
+            assert_eq!(read, shape.data * size);
+            assert!(bytes == expected && columns.into_iter().eq(0..size));
+        }
     }
 }
 

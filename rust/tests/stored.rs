@@ -1,6 +1,7 @@
-//! The cases whose outcome the programs of `tests/` work out from documents 01 and 02 (§6, §7, §9, §10, §12) alone, run
-//! through the library: each line of a stored file has to come out as it stands there.
+//! The cases whose outcome the programs of `tests/` work out from documents 01 and 02 (§2, §6, §7, §9, §10, §12) alone,
+//! run through the library: each line of a stored file has to come out as it stands there.
 
+mod raw;
 mod stored {
     pub mod card;
     pub mod code;
@@ -13,10 +14,11 @@ mod stored {
     pub mod repair;
     pub mod samples;
     pub mod steps;
+    pub mod stretches;
     pub mod trial;
 }
 
-use stored::{card, code, correct, layers, order, plan, repair, samples, steps};
+use stored::{card, code, correct, layers, order, plan, repair, samples, steps, stretches};
 
 /// Tells the first line that differs.
 fn assert_stored(made: &str, stored: &str) {
@@ -34,6 +36,11 @@ fn samples_of_the_documents() {
 #[test]
 fn archives() {
     assert_stored(&code::lines(), include_str!("../../tests/stored/code.txt"));
+}
+
+#[test]
+fn many_stretches() {
+    assert_stored(&stretches::lines(), include_str!("../../tests/stored/stretches.txt"));
 }
 
 #[test]

@@ -1,8 +1,10 @@
 //! What the wrapper adds to the library: no length, shape or card from safe code can do harm, and the conveniences answer
 //! as the calls they wrap.
 use hmsr::{
-    plan, plan_text, unpack, unpack_into, unpack_to_vec, Checked, FirstStep, Header, Refusal, Repair, Shape, PLAN_TEXT,
+    plan, plan_text, unpack, unpack_into, unpack_to_vec, Checked, FirstStep, Header, Refusal, Repair, Shape, Stretches,
+    MOST_STRETCHES, PLAN_TEXT,
 };
+use std::ops::Range;
 
 /// Document 01's first archive: n = 3, k = 1, L = 1, bytes 3 6.
 const SHAPE: Shape = Shape { nodes: 3, data: 1, layers: 1 };
@@ -69,6 +71,8 @@ fn empty_buffers_are_refused_for_their_length() {
     assert_eq!(SHAPE.check(&[]), Err(Refusal::WrongLength));
     assert_eq!(SHAPE.restore(&[0], &[], &mut []), wrong);
     assert_eq!(SHAPE.open(&[0], &[], 0, &mut []), wrong);
+    assert_eq!(SHAPE.open_stretches(&[0], &[], 0, &[], &mut [], &mut []), Err(Refusal::WrongLength));
+    assert_eq!(SHAPE.open_stretches_to_vec(&[0], &[], 0, &[]), Err(Refusal::WrongLength));
     assert_eq!(SHAPE.correct(&mut [], 0, 0, 0), wrong);
     assert_eq!(SHAPE.correct_to_nodes(&[], 0, 0, 0), Err(Refusal::WrongLength));
     let repair = Repair { shape: SHAPE, dead: &[0], helpers: &[1, 2] };
@@ -90,6 +94,7 @@ fn empty_lists_are_refused() {
     let mut nodes = SHAPE.write_to_nodes(&[3, 6]).unwrap();
     assert_eq!(SHAPE.restore_nodes(&[], &[]), Err(Refusal::BadNodes));
     assert_eq!(SHAPE.open_to_vec(&[], &[], 0), Err(Refusal::BadNodes));
+    assert_eq!(SHAPE.open_stretches_to_vec(&[], &[], 0, &[]), Err(Refusal::BadNodes));
     for (dead, helpers) in [(&[][..], &[1, 2][..]), (&[0], &[])] {
         let repair = Repair { shape: SHAPE, dead, helpers };
         assert_eq!(repair.repair_nodes(&mut nodes), Err(Refusal::BadNodes));
@@ -114,6 +119,7 @@ fn every_call_judges_every_shape() {
         judged(shape.check(&[0; 3]).map(drop));
         judged(shape.restore(&[0], &[0; 3], &mut [0; 3]));
         judged(shape.open(&[0], &[0; 3], 1, &mut [0; 1]));
+        judged(shape.open_stretches(&[0], &[999; 3], 1, &[range([0, 1])], &mut [0; 1], &mut [0; 3]).map(drop));
         judged(shape.correct(&mut [999; 3], usize::MAX, usize::MAX, i64::MIN));
         let repair = Repair { shape, dead: &[0], helpers: &[1, 2] };
         judged(repair.helper_message(1, 0, &[0; 3], &mut [0; 3]));
@@ -139,6 +145,96 @@ fn choosing_layers_judges_every_n_and_k() {
         };
         assert_eq!(Shape::for_losses(nodes, data, &[]), no_losses);
         assert_eq!(Shape::for_losses(nodes, data, &[usize::MAX]), bad_loss);
+    }
+}
+
+/// What opening stretches from node 1 into new buffers gives, and that the call with lent buffers, of the exact
+/// lengths, answers alike and, where it is refused, leaves them as they were.
+fn stretches(symbols: &[u16], length: usize, stretches: &[Range<usize>]) -> Result<Stretches, Refusal> {
+    let made = SHAPE.open_stretches_to_vec(&[1], symbols, length, stretches);
+    // One that is too long to lend its bytes is handed in as an empty one behind the end.
+    let lent: Vec<Range<usize>> =
+        stretches.iter().map(|stretch| if stretch.len() > 99 { 99..99 } else { stretch.clone() }).collect();
+    let (mut bytes, mut columns) = (vec![9; lent.iter().map(Range::len).sum()], [9; 8]);
+    let answer = SHAPE.open_stretches(&[1], symbols, length, &lent, &mut bytes, &mut columns);
+    if answer.is_err() {
+        assert!(bytes.iter().all(|&byte| byte == 9) && columns == [9; 8], "{stretches:?}");
+    }
+    let opened = answer.map(|symbols| {
+        let (touched, behind) = columns.split_at(symbols);
+        assert!(behind.iter().all(|&column| column == 0), "{columns:?}");
+        Stretches { bytes, columns: touched.to_vec(), symbols }
+    });
+    assert_eq!(made, opened, "{stretches:?}");
+    made
+}
+
+/// A range of these numbers, also one whose end is before its start.
+fn range([start, end]: [usize; 2]) -> Range<usize> {
+    start..end
+}
+
+/// Document 02 §2, on document 01's first archive. A range whose end is before its start is an empty stretch at its
+/// start.
+#[test]
+fn stretches_are_opened_or_refused_by_both_forms() {
+    let opened = |ranges: &[[usize; 2]]| stretches(&NODE_1, 2, &ranges.iter().copied().map(range).collect::<Vec<_>>());
+    let made = |bytes: &[u8], columns: &[usize]| {
+        Ok(Stretches { bytes: bytes.to_vec(), columns: columns.to_vec(), symbols: columns.len() })
+    };
+    assert_eq!(opened(&[[0, 2]]), made(&[3, 6], &[0, 1]));
+    assert_eq!(opened(&[[1, 2], [0, 2], [1, 2]]), made(&[6, 3, 6, 6], &[0, 1]));
+    assert_eq!(opened(&[[1, 2]]), made(&[6], &[1]));
+    assert_eq!(opened(&[]), made(&[], &[]));
+    assert_eq!(opened(&[[2, 2], [0, 0], [1, 0], [2, 0]]), made(&[], &[]));
+    for past in
+        [[0, 3], [1, 3], [2, 3], [3, 3], [3, 0], [0, 100], [0, usize::MAX], [usize::MAX, usize::MAX], [1 << 32, 1]]
+    {
+        assert_eq!(opened(&[past]), Err(Refusal::PastEnd), "{past:?}");
+        assert_eq!(opened(&[[0, 1], past, [1, 2]]), Err(Refusal::PastEnd), "{past:?}");
+    }
+    let high = [&[257], &NODE_1[1..]].concat();
+    assert_eq!(stretches(&high, 2, &[range([1, 2])]), made(&[6], &[1]));
+    assert_eq!(stretches(&high, 2, &[1..2, 0..1]), Err(Refusal::BadSymbol));
+    assert_eq!(stretches(&high, 2, &[0..1, 2..3]), Err(Refusal::PastEnd));
+    assert_eq!(stretches(&high, 9, &[0..1, 9..10]), Err(Refusal::WrongLength));
+    assert_eq!(stretches(&high[1..], 2, &[0..1, 2..3]), Err(Refusal::WrongLength));
+    // 87 is what node 1 has beside a data symbol 256.
+    let no_byte = [&[87], &NODE_1[1..]].concat();
+    assert_eq!(stretches(&no_byte, 2, &[range([1, 2])]), made(&[6], &[1]));
+    assert_eq!(stretches(&no_byte, 2, &[1..2, 0..1]), Err(Refusal::NoTranscript));
+}
+
+#[test]
+fn buffers_for_stretches_have_the_exact_lengths() {
+    for bytes_length in 0..6 {
+        for columns_length in 6..11 {
+            let (mut bytes, mut columns) = (vec![9; bytes_length], vec![9; columns_length]);
+            let answer = SHAPE.open_stretches(&[1], &NODE_1, 2, &[1..2, 0..2], &mut bytes, &mut columns);
+            if (bytes_length, columns_length) == (3, 8) {
+                assert_eq!(answer, Ok(2));
+                assert_eq!((bytes, columns), (vec![6, 3, 6], vec![0, 1, 0, 0, 0, 0, 0, 0]));
+            } else {
+                assert_eq!(answer, Err(Refusal::WrongLength));
+                assert_eq!((bytes, columns), (vec![9; bytes_length], vec![9; columns_length]));
+            }
+        }
+    }
+}
+
+/// More are refused, wherever they start: none is left out to have them accepted.
+#[test]
+fn sixty_four_stretches_are_opened_together() {
+    assert_eq!(MOST_STRETCHES, 64);
+    for count in [63, 64, 65, 66, 127, 128, 129, 1000] {
+        for (stretch, bytes) in [(1..2, 1), (2..2, 0)] {
+            let answer = stretches(&NODE_1, 2, &vec![stretch; count]);
+            let expected = if count <= 64 { Ok(vec![6; count * bytes]) } else { Err(Refusal::WrongLength) };
+            assert_eq!(answer.map(|opened| opened.bytes), expected, "{count} stretches");
+        }
+        if count > 64 {
+            assert_eq!(stretches(&NODE_1, 2, &vec![0..3; count]), Err(Refusal::WrongLength));
+        }
     }
 }
 
@@ -238,6 +334,7 @@ fn conveniences_and_sizes_judge_every_shape() {
         judged(shape.write_to_nodes(&[]).map(drop));
         judged(shape.restore_nodes(&[0], &[0; 3]).map(drop));
         judged(shape.open_to_vec(&[0], &[0; 3], usize::MAX).map(drop));
+        judged(shape.open_stretches_to_vec(&[0], &[999; 3], usize::MAX, &[range([0, usize::MAX])]).map(drop));
         judged(shape.correct_to_nodes(&[999; 3], usize::MAX, usize::MAX, i64::MAX).map(drop));
         let repair = Repair { shape, dead: &[0], helpers: &[1, 2] };
         judged(repair.helper_message_to_vec(1, 0, &[0; 3]).map(drop));
@@ -262,6 +359,20 @@ fn a_length_above_the_capacity_takes_no_memory() {
     assert_eq!(SHAPE.open_to_vec(&[0], &nodes[..8], usize::MAX), Err(Refusal::WrongLength));
     assert_eq!(SHAPE.open_to_vec(&[3], &nodes[..8], usize::MAX), Err(Refusal::BadNodes));
     assert_eq!(SHAPE.open_to_vec(&[0], &nodes[..8], 9), Err(Refusal::WrongLength));
+    let far = [0..usize::MAX, 1..usize::MAX];
+    assert_eq!(SHAPE.open_stretches_to_vec(&[0], &nodes[..8], 8, &far), Err(Refusal::PastEnd));
+    assert_eq!(SHAPE.open_stretches_to_vec(&[0], &nodes[..8], usize::MAX, &far), Err(Refusal::WrongLength));
+    assert_eq!(SHAPE.open_stretches_to_vec(&[3], &nodes[..8], usize::MAX, &far), Err(Refusal::BadNodes));
+}
+
+/// For all of these together there is no memory: 12 terabytes.
+#[test]
+fn too_many_stretches_take_no_memory() {
+    let shape = Shape::new(14, 12, 15).unwrap();
+    let (list, length) = ((0..12).collect::<Vec<_>>(), shape.capacity().unwrap());
+    let stretches = vec![0..length; 1 << 22];
+    let answer = shape.open_stretches_to_vec(&list, &vec![0; length], length, &stretches);
+    assert_eq!(answer, Err(Refusal::WrongLength));
 }
 
 /// Symbols of all values.

@@ -1,12 +1,18 @@
 //! The arguments of a command: words in their order, options with values, and flags.
 use std::ffi::{OsStr, OsString};
-use std::num::IntErrorKind;
+use std::num::{IntErrorKind, ParseIntError};
+use std::ops::Range;
 use std::path::Path;
+
+use hmsr::MOST_STRETCHES;
 
 use super::{text, Command, Failure};
 
 /// The option that names sizes of loss.
 const LOSSES: &str = "--losses";
+
+/// The option that names a stretch of the transcript.
+const STRETCH: &str = "--stretch";
 
 #[derive(Default)]
 pub struct Args {
@@ -21,8 +27,8 @@ pub fn asks_for_help(given: &[OsString]) -> bool {
 }
 
 impl Args {
-    /// Takes exactly the words of the command, the last of them more than once where it repeats, and each of its
-    /// options once at most, as `--name value` or `--name=value`. Behind `--` all are words; `-` is a word.
+    /// Takes exactly the words of the command and each of its options once at most, as `--name value` or
+    /// `--name=value`; what repeats, as often as it comes. Behind `--` all are words; `-` is a word.
     pub fn parse(given: &[OsString], command: &Command) -> Result<Args, Failure> {
         let mut args = Args::default();
         let mut given = given.iter();
@@ -35,8 +41,9 @@ impl Args {
                 args.words.push(word.clone());
             }
         }
+        let last_repeats = command.words.last().is_some_and(|last| command.repeats.contains(last));
         match (args.words.get(command.words.len()), command.words.get(args.words.len())) {
-            (Some(extra), _) if !command.repeats => {
+            (Some(extra), _) if !last_repeats => {
                 Err(Failure::argument(&format!("what is {} for?", extra.to_string_lossy())))
             }
             (_, Some(missing)) => Err(Failure::argument(&format!("{missing} is missing"))),
@@ -52,7 +59,7 @@ impl Args {
             Some((name, value)) => (name, Some(value.to_string())),
             None => (option, None),
         };
-        if self.has(name) || self.option(name).is_some() {
+        if !command.repeats.contains(&name) && (self.has(name) || self.option(name).is_some()) {
             return Err(Failure::argument(&format!("{name} is given twice")));
         }
         if command.flags.contains(&name) {
@@ -74,7 +81,12 @@ impl Args {
     }
 
     fn option(&self, name: &str) -> Option<&str> {
-        self.options.iter().find(|(given, _)| given == name).map(|(_, value)| value.as_str())
+        self.values(name).first().copied()
+    }
+
+    /// Every value of an option, in the order given.
+    fn values(&self, name: &str) -> Vec<&str> {
+        self.options.iter().filter(|(given, _)| given == name).map(|(_, value)| value.as_str()).collect()
     }
 
     /// Whether a flag is given.
@@ -145,6 +157,17 @@ impl Args {
     pub fn required_losses(&self) -> Result<Vec<usize>, Failure> {
         self.losses()?.ok_or_else(|| missing(LOSSES))
     }
+
+    /// The stretches of the transcript, in the order given; none where the option is not given.
+    pub fn stretches(&self) -> Result<Vec<Range<usize>>, Failure> {
+        let stretches = self.values(STRETCH).into_iter().map(stretch).collect::<Result<Vec<_>, _>>()?;
+        match stretches.len() {
+            count if count > MOST_STRETCHES => Err(Failure::argument(&format!(
+                "{STRETCH} is given {count} times, and may be {MOST_STRETCHES} times at most"
+            ))),
+            _ => Ok(stretches),
+        }
+    }
 }
 
 fn missing(name: &str) -> Failure {
@@ -152,8 +175,26 @@ fn missing(name: &str) -> Failure {
 }
 
 fn number(name: &str, value: &str) -> Result<usize, Failure> {
-    value.parse().map_err(|e: std::num::ParseIntError| match e.kind() {
+    number_or(name, value, || Failure::argument(&format!("{name}: {value} is not a whole number")))
+}
+
+/// A number, and what is said where it is none.
+fn number_or(name: &str, value: &str, none: impl FnOnce() -> Failure) -> Result<usize, Failure> {
+    value.parse().map_err(|e: ParseIntError| match e.kind() {
         IntErrorKind::PosOverflow => Failure::argument(&format!("{name}: {value} is too large")),
-        _ => Failure::argument(&format!("{name}: {value} is not a whole number")),
+        _ => none(),
     })
+}
+
+/// "100..180", the bytes 100 to 179.
+fn stretch(value: &str) -> Result<Range<usize>, Failure> {
+    let none = || {
+        Failure::argument(&format!(
+            "{STRETCH}: {value} is not a stretch, which is START..END, with END not below START, for the bytes START \
+             to END - 1, counted from 0"
+        ))
+    };
+    let (start, end) = value.split_once("..").ok_or_else(none)?;
+    let stretch = number_or(STRETCH, start, none)?..number_or(STRETCH, end, none)?;
+    Some(stretch).filter(|stretch| stretch.start <= stretch.end).ok_or_else(none)
 }

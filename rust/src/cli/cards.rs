@@ -1,11 +1,12 @@
 //! The cards of one archive in a directory: which nodes they are of, whether they agree, and the transcript in them.
+use std::ops::Range;
 use std::path::{Path, PathBuf};
 
-use hmsr::{Header, Shape};
+use hmsr::{Header, Refusal, Shape, Stretches};
 
 use super::card_files::{card_name, card_path, numbers_of_cards, read_card, Card, Unreadable};
 use super::groups::{self, described, kind, Kind};
-use super::text::{joined, nodes_listed, shown};
+use super::text::{counted, joined, nodes_listed, shown};
 use super::Failure;
 
 /// The cards of one archive.
@@ -157,9 +158,20 @@ impl Cards {
 
     /// The transcript from k nodes.
     pub fn transcript(&self, nodes: &[usize]) -> Result<Vec<u8>, Failure> {
-        self.shape.open_to_vec(nodes, &self.symbols_of(nodes), self.length).map_err(|refusal| {
-            let advice = "some are damaged, or their length is";
-            Failure::refused(Failure::Lost, "the cards do not open", refusal, advice)
+        self.shape.open_to_vec(nodes, &self.symbols_of(nodes), self.length).map_err(not_opened)
+    }
+
+    /// Stretches of the transcript from k nodes.
+    pub fn stretches(&self, nodes: &[usize], stretches: &[Range<usize>]) -> Result<Stretches, Failure> {
+        let opened = self.shape.open_stretches_to_vec(nodes, &self.symbols_of(nodes), self.length, stretches);
+        let past = stretches.iter().find(|stretch| stretch.end > self.length);
+        opened.map_err(|refusal| match (refusal, past) {
+            (Refusal::PastEnd, Some(Range { start, end })) => {
+                let what = format!("stretch {start}..{end} cannot be opened");
+                let advice = format!("the transcript has {}", counted(self.length, "byte"));
+                Failure::refused(Failure::Usage, &what, refusal, &advice)
+            }
+            _ => not_opened(refusal),
         })
     }
 
@@ -191,6 +203,10 @@ fn used(cards: &[Card], node: usize) -> Option<usize> {
     let of_node = |card: &Card| card.header.node == node;
     let own = cards.iter().position(|card| of_node(card) && card.named == node);
     own.or_else(|| cards.iter().position(of_node))
+}
+
+fn not_opened(refusal: Refusal) -> Failure {
+    Failure::refused(Failure::Lost, "the cards do not open", refusal, "some are damaged, or their length is")
 }
 
 fn none_readable(directory: &Path, unreadable: &[(usize, Unreadable)]) -> Failure {

@@ -70,7 +70,7 @@ fn opened(place: &Path, drives: &Path) -> Result<String, Failure> {
     for node in OPENED {
         fs::copy(card_path(drives, node), card_path(&others, node)).map_err(failed)?;
     }
-    open::open(&others, &place.join("opened.txt"))
+    open::open(&others, &place.join("opened.txt"), &[])
 }
 
 /// Whether the transcript and the lost cards are as they were.

@@ -57,8 +57,8 @@ impl From<String> for Report {
 struct Command {
     name: &'static str,
     words: &'static [&'static str],
-    /// Whether the last word may be given more than once.
-    repeats: bool,
+    /// What may be given more than once: the last word, and options.
+    repeats: &'static [&'static str],
     /// Options with a value.
     options: &'static [&'static str],
     flags: &'static [&'static str],
@@ -69,7 +69,7 @@ const COMMANDS: [Command; 10] = [
     Command {
         name: "write",
         words: &["FILE", "DIR"],
-        repeats: false,
+        repeats: &[],
         options: &["--nodes", "--data", "--layers", "--losses", "--hearing"],
         flags: &["--quiet"],
         run: write::run,
@@ -77,16 +77,23 @@ const COMMANDS: [Command; 10] = [
     Command {
         name: "check",
         words: &["DIR"],
-        repeats: false,
+        repeats: &[],
         options: &[],
         flags: &["--json", "--quiet"],
         run: check::run,
     },
-    Command { name: "open", words: &["DIR", "OUT"], repeats: false, options: &[], flags: &["--quiet"], run: open::run },
+    Command {
+        name: "open",
+        words: &["DIR", "OUT"],
+        repeats: &["--stretch"],
+        options: &["--stretch"],
+        flags: &["--quiet"],
+        run: open::run,
+    },
     Command {
         name: "repair",
         words: &["DIR"],
-        repeats: false,
+        repeats: &[],
         options: &["--dead", "--helpers"],
         flags: &["--dry-run", "--quiet"],
         run: repair::run,
@@ -94,7 +101,7 @@ const COMMANDS: [Command; 10] = [
     Command {
         name: "correct",
         words: &["DIR"],
-        repeats: false,
+        repeats: &[],
         options: &["--at", "--from", "--to"],
         flags: &["--dry-run", "--quiet"],
         run: correct::run,
@@ -102,7 +109,7 @@ const COMMANDS: [Command; 10] = [
     Command {
         name: "layers",
         words: &[],
-        repeats: false,
+        repeats: &[],
         options: &["--nodes", "--data", "--losses"],
         flags: &["--json"],
         run: layers::run,
@@ -110,7 +117,7 @@ const COMMANDS: [Command; 10] = [
     Command {
         name: "plan",
         words: &[],
-        repeats: false,
+        repeats: &[],
         options: &["--nodes", "--data", "--layers", "--dead", "--helpers"],
         flags: &["--json"],
         run: plan::run,
@@ -118,13 +125,13 @@ const COMMANDS: [Command; 10] = [
     Command {
         name: "order",
         words: &["FILE"],
-        repeats: false,
+        repeats: &[],
         options: &["--nodes", "--data", "--layers", "--dead", "--helpers"],
         flags: &["--json"],
         run: order::run,
     },
-    Command { name: "info", words: &["CARD"], repeats: true, options: &[], flags: &["--json"], run: info::run },
-    Command { name: "demo", words: &[], repeats: false, options: &[], flags: &[], run: demo::run },
+    Command { name: "info", words: &["CARD"], repeats: &["CARD"], options: &[], flags: &["--json"], run: info::run },
+    Command { name: "demo", words: &[], repeats: &[], options: &[], flags: &[], run: demo::run },
 ];
 
 /// Runs the command that the arguments name.

@@ -23,9 +23,10 @@ hmsr check DIR [--json] [--quiet]
     (
         "open",
         "\
-hmsr open DIR OUT [--quiet]
+hmsr open DIR OUT [--stretch START..END]... [--quiet]
         put the transcript into the new file OUT, from any K cards; OUT - is standard output, and then the report goes
-        to standard error
+        to standard error; with --stretch, put its bytes START to END - 1 alone there, counted from 0, up to 64
+        stretches joined in the order given, and say how many symbols were read for them
 ",
     ),
     (

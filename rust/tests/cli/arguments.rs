@@ -45,6 +45,33 @@ fn arguments_that_are_not_understood_are_told_on_one_line() {
     place.turned_back("nothing", &output, USAGE, &["which command?"]);
 }
 
+/// The options of a command, as the first line of its help has them: those with a value have its name behind them.
+fn options(help: &str) -> Vec<String> {
+    let words = help.lines().next().unwrap().split(' ').map(|word| word.trim_start_matches('['));
+    let with_value = |option: &str| match option.strip_suffix(']') {
+        Some(flag) => flag.to_string(),
+        None => format!("{option} 1"),
+    };
+    words.filter(|word| word.starts_with("--")).map(with_value).collect()
+}
+
+#[test]
+fn every_option_but_a_stretch_is_refused_when_given_twice() {
+    let place = Place::new("twice");
+    let mut refused = 0;
+    for command in ["write", "check", "open", "repair", "correct", "layers", "plan", "order", "info"] {
+        for option in options(&place.does(&format!("{command} --help"))) {
+            let name = option.split(' ').next().unwrap();
+            if name != "--stretch" {
+                let complaint = format!("hmsr: {name} is given twice (see hmsr --help)\n");
+                assert_eq!(place.refuses(&format!("{command} {option} {option}"), USAGE, &[]), complaint);
+                refused += 1;
+            }
+        }
+    }
+    assert!(refused >= 35, "only {refused} options were tried");
+}
+
 #[test]
 fn a_number_that_is_too_large_is_told_from_one_that_is_none() {
     let place = Place::new("large_number");

@@ -8,7 +8,7 @@ use crate::naive;
 use crate::place::{bytes, Place, IO, LOST, REPAIRABLE, USAGE};
 
 /// An archive of these bytes in `drives`, written by the program.
-fn archive(test: &str, shape: naive::Shape, hearing: usize, transcript: &[u8]) -> Place {
+pub fn archive(test: &str, shape: naive::Shape, hearing: usize, transcript: &[u8]) -> Place {
     let place = Place::new(test);
     fs::write(place.path("transcript"), transcript).unwrap();
     let naive::Shape { n, k, layers } = shape;
@@ -231,7 +231,7 @@ fn a_byte_past_the_end_is_refused() {
     let place = archive("correct_end", shape, 0, &bytes(100, 1));
     for at in ["100", "191", "192", "18446744073709551615"] {
         let complaint = format!(
-            "hmsr: byte {at} cannot be corrected: refusal 9 (the byte's number is not below the transcript's length); \
+            "hmsr: byte {at} cannot be corrected: refusal 9 (the byte, or a stretch, is not within the transcript's length); \
              the transcript's bytes are 0 to 99\n"
         );
         assert_eq!(place.refuses(&format!("correct drives --at {at} --from 0 --to 1"), USAGE, &[]), complaint);

@@ -83,6 +83,8 @@ fn control_characters_in_names_are_escaped() {
         &["correct", directory, "--at", "0", "--from", "0", "--to", "\u{8}"],
         &["open", directory, "new\tname"],
         &["open", directory, "new\tname"],
+        &["open", directory, "part\tname", "--stretch", "0..1"],
+        &["open", directory, "other", "--stretch", "0..\u{8}"],
         &["info", directory],
         &["check", "no\u{7}where"],
         &["no\rcommand"],
@@ -106,6 +108,8 @@ fn control_characters_in_names_are_escaped() {
         "rewrote two\\nlines",
         "--to: \\u{8} is not a byte",
         "new\\tname is there already",
+        "in 1 stretch into part\\tname from",
+        "--stretch: 0..\\u{8} is not a stretch",
         "no\\u{7}where",
         "no\\rcommand",
         "--no\\u{8}option",
@@ -151,6 +155,7 @@ fn one_is_singular() {
     printed += &place.does("check drives");
     place.lose("drives", &[2]);
     printed += &place.does("open drives opened");
+    printed += &place.does("open drives part --stretch 0..1");
     printed += &place.does("repair drives");
     place.lose("drives", &[1, 2]);
     printed += &place.refuses("check drives", REPAIRABLE, &["the other one is just enough"]);
@@ -162,6 +167,8 @@ fn one_is_singular() {
         "1 node gives the transcript back",
         "(3 nodes, any 1 of them, 1 layer, 1 byte)",
         "from node 0\n1 further card agrees",
+        "opened 1 byte in 1 stretch into part from node 0\n",
+        "\n1 symbol read of 8\n",
         "repair of node 2 with the help of nodes 0, 1\n",
     ] {
         assert!(printed.contains(words), "{printed} lacks {words}");

@@ -155,6 +155,7 @@ fn exit_statuses_are_those_of_the_readme() {
     assert_eq!(status("check drives"), 0);
     assert_eq!(status("check nowhere"), 4);
     assert_eq!(status("check"), 3);
+    assert_eq!([status("open drives opened --stretch 0..501"), status("open drives opened --stretch 0")], [3, 3]);
     let correct = "correct drives --at 0 --from 0 --to 0";
     assert_eq!([status("correct nowhere --at 0 --from 0 --to 0"), status(correct)], [4, 3]);
     place.lose("drives", &[0, 1]);

@@ -1,6 +1,6 @@
 /* Prints the header's constants, a card of each form with its header's numbers, what choosing layers gives, whether transfers may run in
- * some orders, what corrections leave, the texts, and every size for all shapes and losses of the numbers given, with what the library
- * says to buffers of these sizes. It is compiled as C and as C++. */
+ * some orders, what opening stretches and corrections leave, the texts, and every size for all shapes and losses of the numbers given,
+ * with what the library says to buffers of these sizes. It is compiled as C and as C++. */
 #include <stdio.h>
 #include <stdlib.h>
 #include <string.h>
@@ -20,7 +20,7 @@ static void print_constants(void) {
     printf("WrongLength %d\nBadSymbol %d\nMalformed %d\n", HMSR_WRONG_LENGTH, HMSR_BAD_SYMBOL, HMSR_MALFORMED);
     printf("NoTranscript %d\nPastEnd %d\nNoLayers %d\n", HMSR_NO_TRANSCRIPT, HMSR_PAST_END, HMSR_NO_LAYERS);
     printf("BadChange %d\nBadOrder %d\n", HMSR_BAD_CHANGE, HMSR_BAD_ORDER);
-    printf("%d %d\n", HMSR_HEADER, HMSR_PLAN_TEXT);
+    printf("%d %d %d\n", HMSR_HEADER, HMSR_PLAN_TEXT, HMSR_STRETCHES);
 }
 
 /* Packs document 01's card for node 1 with a hearing number, and unpacks it: what is returned, and the bytes or the header's numbers. */
@@ -66,6 +66,49 @@ static void print_orders(void) {
     print_may_run(4, 1, 2, 3, plan, 13);
     print_may_run(4, 3, 2, 3, plan, 13);
     printf("\n");
+}
+
+/* Node 2 of document 01's first archive, bytes 3 6, with 65535 in the columns that neither touches. */
+static const uint16_t node_2[] = {1, 4, 65535, 65535, 65535, 65535, 65535, 65535};
+
+/* What opening stretches of `length` bytes returns, then as many bytes as are lent, and the columns; all are 9 before. */
+static void print_stretches(const uint16_t *node, size_t length, const size_t *stretches, size_t count, size_t lent) {
+    uint8_t bytes[4] = {9, 9, 9, 9};
+    size_t columns[8] = {9, 9, 9, 9, 9, 9, 9, 9}, i;
+    size_t returned = hmsr_open_stretches(3, 1, 1, nodes + 2, 1, node, 8, length, stretches, count, lent ? bytes : NULL, lent, columns, 8);
+    printf("%zu:", returned);
+    for (i = 0; i < lent; i++) printf(" %d", bytes[i]);
+    printf(" /");
+    for (i = 0; i < 8; i++) printf(" %zu", columns[i]);
+    printf("\n");
+}
+
+/* The most stretches, each of no bytes, and one more; an odd count; lengths whose sum wraps to that of the buffer; an end that wraps; too
+ * long a transcript; and a symbol above 256, with a stretch behind the end and without. */
+static void print_refused_stretches(void) {
+    const size_t none[2 * (HMSR_STRETCHES + 1)] = {0};
+    const size_t wraps[] = {0, SIZE_MAX, 0, 2, SIZE_MAX, 2};
+    const uint16_t high[] = {257, 4, 0, 0, 0, 0, 0, 0};
+    const size_t both[] = {0, 2, 3, 0};
+    print_stretches(node_2, 2, none, 2 * HMSR_STRETCHES, 0);
+    print_stretches(node_2, 2, none, 2 * HMSR_STRETCHES + 2, 0);
+    print_stretches(node_2, 2, both, 3, 2);
+    print_stretches(node_2, 2, wraps, 4, 1);
+    print_stretches(node_2, 2, wraps + 4, 2, 2);
+    print_stretches(node_2, 9, both, 4, 2);
+    print_stretches(high, 2, both, 4, 2);
+    print_stretches(high, 2, both, 2, 2);
+}
+
+static void print_all_stretches(void) {
+    const size_t stretches[] = {1, 1, 0, 2, 2, 0};
+    const uint16_t no_byte[] = {171, 4, 0, 0, 0, 0, 0, 0};
+    print_stretches(node_2, 2, stretches, 6, 3);
+    print_stretches(node_2, 2, stretches, 2, 1);
+    print_stretches(node_2, 2, NULL, 0, 0);
+    print_stretches(no_byte, 2, stretches, 2, 1);
+    print_stretches(no_byte, 2, stretches, 6, 3);
+    print_refused_stretches();
 }
 
 /* Document 01's first archive. */
@@ -129,6 +172,7 @@ int main(int count, char **words) {
     print_card(SIZE_MAX);
     print_layers();
     print_orders();
+    print_all_stretches();
     print_corrections();
     for (i = 1; i < count && i < 64; i++) {
         numbers[i] = (size_t)strtoull(words[i], NULL, 10);

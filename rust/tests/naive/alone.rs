@@ -1,6 +1,7 @@
-//! The naive implementation checked on its own: the samples of document 01, a card with a hearing number, lists of losses,
-//! corrections and orders of transfers (document 02), the parity equations by their definition, transcripts opened from any
-//! nodes and corrected, and repairs, whole and one transfer after the other.
+//! The naive implementation checked on its own: the samples of document 01, a card with a hearing number, lists of
+//! losses, stretches, corrections and orders of transfers (document 02), the parity equations by their definition,
+//! transcripts opened from any nodes, whole and in stretches, and corrected, and repairs, whole and one transfer after
+//! the other.
 
 use super::naive::card::{put_number, take_number};
 use super::naive::code::point;
@@ -178,6 +179,63 @@ fn sample_corrections_of_256() {
     assert_eq!([by(0), by(-256), by(1)], [Err(12), Err(12), Err(12)]);
 }
 
+/// Stretches of that length from one node of the first archive.
+fn of_first(node: usize, length: usize, numbers: &[usize], bytes_length: usize) -> Wanted {
+    let symbols = first_archive()[8 * node..][..8].to_vec();
+    let (list, numbers) = (vec![node], numbers.to_vec());
+    Wanted { shape: SMALL, list, symbols, length, numbers, bytes_length, columns_length: 8 }
+}
+
+/// The first archive's bytes 3 6 in stretches (document 02 §2), by hand.
+#[test]
+fn sample_stretches() {
+    let opened = |bytes: &[u8], columns: [usize; 8], number| {
+        Ok(Opened { bytes: bytes.to_vec(), columns: columns.to_vec(), number })
+    };
+    for node in 0..3 {
+        let open = |numbers: &[usize], bytes_length| open_stretches(&of_first(node, 2, numbers, bytes_length));
+        assert_eq!(open(&[1, 1, 0, 2, 2, 0], 3), opened(&[6, 3, 6], [0, 1, 0, 0, 0, 0, 0, 0], 2));
+        assert_eq!(open(&[1, 1], 1), opened(&[6], [1, 0, 0, 0, 0, 0, 0, 0], 1));
+        assert_eq!(open(&[], 0), opened(&[], [0; 8], 0));
+        assert_eq!(open(&[2, 0].repeat(64), 0), opened(&[], [0; 8], 0));
+        assert_eq!(open(&[2, 0].repeat(65), 0), Err(4));
+        for (numbers, bytes_length, number) in [
+            (&[0, 2, 0][..], 2, 4),
+            (&[0, 2], 1, 4),
+            (&[0, 2], 3, 4),
+            (&[0, 1 << 63, 0, 1 << 63], 0, 4),
+            (&[1, 2], 2, 9),
+            (&[3, 0], 0, 9),
+            (&[usize::MAX, 2], 2, 9),
+        ] {
+            assert_eq!(open(numbers, bytes_length), Err(number), "{numbers:?}");
+        }
+        let far = of_first(node, 2, &[0, 1 << 63, 0, 1 << 63], 0);
+        assert_eq!(open_stretches_anew(&far), Err(9));
+        assert_eq!(open_stretches(&of_first(node, 9, &[3, 9], 9)), Err(4));
+        assert_eq!(open_stretches(&Wanted { list: vec![3], ..of_first(node, 9, &[3, 9], 9) }), Err(2));
+        let no_shape = Shape { layers: 0, ..SMALL };
+        assert_eq!(open_stretches(&Wanted { shape: no_shape, list: vec![3], ..of_first(node, 9, &[3], 9) }), Err(1));
+    }
+}
+
+/// What is looked at: "node 1 holding 87" at place 0 is a data symbol 256 there.
+#[test]
+fn sample_stretches_look_at_touched_columns_and_wanted_bytes() {
+    let with = |numbers: &[usize], bytes_length, first| {
+        let mut wanted = of_first(1, 2, numbers, bytes_length);
+        wanted.symbols[2..].fill(65535);
+        wanted.symbols[0] = first;
+        open_stretches(&wanted).map(|opened| opened.bytes)
+    };
+    assert_eq!(with(&[0, 2], 2, 87), Err(7));
+    assert_eq!(with(&[1, 1], 1, 87), Ok(vec![6]));
+    assert_eq!(with(&[0, 2], 2, 257), Err(5));
+    assert_eq!(with(&[1, 1], 1, 257), Ok(vec![6]));
+    assert_eq!(with(&[1, 1, 0, 0], 1, 257), Ok(vec![6]));
+    assert_eq!(with(&[0, 3], 3, 257), Err(9));
+}
+
 /// Document 01's plan (n = 4, k = 1, L = 3, nodes 0 and 1 dead, helpers 2 and 3) in its own order and in others, by hand
 /// (document 02 §12).
 #[test]
@@ -235,7 +293,14 @@ fn written_is_a_codeword_and_opens_from_any_nodes() {
         let symbols: Vec<u16> =
             (list.iter()).flat_map(|&node| nodes[node * size..(node + 1) * size].to_vec()).collect();
         assert_eq!(restore(shape, &list, &symbols, nodes.len()), Ok(nodes));
-        assert_eq!(open(shape, &list, &symbols, length, length), Ok(transcript));
+        assert_eq!(open(shape, &list, &symbols, length, length).as_ref(), Ok(&transcript));
+        let (start, end) = (random.below(length + 1), random.below(length + 1));
+        let (start, end) = (start.min(end), start.max(end));
+        let numbers = vec![start, end - start, 0, start];
+        let wanted = Wanted { shape, list, symbols, length, numbers, bytes_length: end, columns_length: size };
+        let opened = open_stretches(&wanted).unwrap();
+        assert_eq!(opened.bytes, [&transcript[start..end], &transcript[..start]].concat());
+        assert_eq!(opened.number, shape.k * end.min(size));
     }
 }
 

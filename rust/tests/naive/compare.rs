@@ -5,8 +5,12 @@
 use super::naive::lent::Lent;
 use super::naive::plan::Transfer;
 use super::naive::random::Random;
-use super::naive::{self, Correction, Fault, Header, Lists, Number, Shape};
-use hmsr::{Checked, Refusal};
+use super::naive::{self, Correction, Fault, Header, Lists, Number, Opened, Shape, Wanted};
+use hmsr::{Checked, Refusal, Stretches};
+use std::ops::Range;
+
+#[path = "../raw/mod.rs"]
+pub mod raw;
 
 pub fn library(shape: Shape) -> hmsr::Shape {
     hmsr::Shape { nodes: shape.n, data: shape.k, layers: shape.layers }
@@ -72,6 +76,47 @@ pub fn open(
     let (number, made) = agreed(answer, naive::open(shape, list, symbols, length, transcript_length));
     transcript.assert_holds(&made);
     number
+}
+
+/// The stretches as the package takes them, where they are pairs and no end wraps.
+pub fn ranges(numbers: &[usize]) -> Option<Vec<Range<usize>>> {
+    let (pairs, left_over) = numbers.as_chunks();
+    let range = |&[start, count]: &[usize; 2]| start.checked_add(count).map(|end| start..end);
+    left_over.is_empty().then(|| pairs.iter().map(range).collect())?
+}
+
+/// By the C call, and by the package in lent buffers and in new ones.
+pub fn open_stretches(random: &mut Random, wanted: &Wanted) -> Number {
+    let Wanted { shape, list, symbols, length, numbers, bytes_length, columns_length } = wanted;
+    let expected = naive::open_stretches(wanted);
+    let number = expected.as_ref().map_or_else(|&number| number, |opened| 256 + opened.number);
+    let made = expected.clone().unwrap_or_default();
+    let mut judged = |call: &dyn Fn(&mut [u8], &mut [usize]) -> usize| {
+        let (mut bytes, mut columns) = (Lent::bytes(random, *bytes_length), Lent::numbers(*columns_length));
+        assert_eq!(call(bytes.slice(), columns.slice()), number);
+        bytes.assert_holds(&made.bytes);
+        columns.assert_holds(&made.columns);
+    };
+    let library = library(*shape);
+    judged(&|bytes, columns| raw::open_stretches(library, list, symbols, *length, numbers, bytes, columns));
+    if let Some(ranges) = ranges(numbers) {
+        judged(&|bytes, columns| {
+            let answer = library.open_stretches(list, symbols, *length, &ranges, bytes, columns);
+            answer.map_or_else(Refusal::number, |read| 256 + read)
+        });
+        assert_opened_anew(wanted, &ranges);
+    }
+    expected.err().unwrap_or(0)
+}
+
+fn assert_opened_anew(wanted: &Wanted, ranges: &[Range<usize>]) {
+    let Wanted { shape, list, symbols, length, .. } = wanted;
+    let made = library(*shape).open_stretches_to_vec(list, symbols, *length, ranges).map_err(Refusal::number);
+    let as_made = |opened: Opened| {
+        let columns = opened.columns[..opened.number / shape.k].to_vec();
+        Stretches { bytes: opened.bytes, columns, symbols: opened.number }
+    };
+    assert!(made == naive::open_stretches_anew(wanted).map(as_made), "the stretches in new buffers");
 }
 
 /// In place and in a new buffer.

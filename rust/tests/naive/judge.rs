@@ -1,4 +1,5 @@
-//! The shape of an archive, the lists of a repair, and the causes 1 to 5 of "When a call turns back".
+//! The shape of an archive, the lists of a repair, and the causes 1 to 5 of "When a call turns back", with what
+//! document 02 §2 adds for stretches.
 
 /// A refusal number of documents 01 and 02.
 pub type Number = usize;
@@ -122,4 +123,29 @@ pub fn judge_transcript(shape: Shape, length: usize) -> Result<(), Number> {
 
 pub fn judge_symbols(symbols: &[u16]) -> Result<(), Number> {
     refuse_unless(symbols.iter().all(|&symbol| symbol <= 256), 5)
+}
+
+/// Where a stretch of a transcript starts, and how many bytes it has.
+pub type Stretch = (usize, usize);
+
+/// "Up to 64 stretches (start and length ..) .. More than 64 stretches is 4" (document 02 §2), and so is a number that
+/// is left over.
+pub fn judge_stretch_count(numbers: &[usize]) -> Result<(), Number> {
+    refuse_unless(numbers.len().is_multiple_of(2) && numbers.len() / 2 <= 64, 4)
+}
+
+/// The buffer has room for all wanted bytes, and no more.
+pub fn judge_sum(sum: u128, length: usize) -> Result<(), Number> {
+    refuse_unless(sum == length as u128, 4)
+}
+
+/// "9, a stretch ends past the transcript, judged after 4 and before 5": one without bytes ends where it starts.
+pub fn judge_ends(stretches: &[Stretch], length: usize) -> Result<(), Number> {
+    let end = |(start, count): Stretch| start as u128 + count as u128;
+    refuse_unless(stretches.iter().all(|&stretch| end(stretch) <= length as u128), 9)
+}
+
+/// The bytes that these data symbols are.
+pub fn judge_bytes(symbols: Vec<u16>) -> Result<Vec<u8>, Number> {
+    symbols.into_iter().map(|symbol| u8::try_from(symbol).map_err(|_| 7)).collect()
 }

@@ -15,6 +15,7 @@ pub mod order;
 pub mod plan;
 pub mod random;
 pub mod repair;
+pub mod stretches;
 
 pub use card::{pack, pack_before, unpack, unpack_before, Header};
 pub use code::{check, open, restore, write, Fault};
@@ -24,3 +25,4 @@ pub use layers::layers;
 pub use order::may_run;
 pub use plan::plan;
 pub use repair::{first_step, helper_message, repair, second_step};
+pub use stretches::{open_stretches, open_stretches_anew, Opened, Wanted};

@@ -1,8 +1,9 @@
 //! A small seeded generator, and random inputs for the tests.
 
-use super::judge::batch_layers;
+use super::judge::{batch_layers, Stretch};
 use super::plan::Transfer;
-use super::{restore, Correction, Header, Lists, Shape};
+use super::stretches::column;
+use super::{restore, Correction, Header, Lists, Shape, Wanted};
 
 /// SplitMix64.
 pub struct Random(u64);
@@ -258,6 +259,119 @@ impl Random {
         }
     }
 
+    /// A stretch of a transcript of that length: at an end of it, around the end of a node, or anywhere; with no byte,
+    /// with few, or now and then with all that are left.
+    fn stretch(&mut self, shape: Shape, length: usize) -> Stretch {
+        let (any, back) = (self.one_of(length + 1), self.below(4));
+        let near_a_node = (self.below(length / shape.symbols() + 1) * shape.symbols()).saturating_sub(back);
+        let start = self.choose(&[any, any, near_a_node]);
+        let (few, more) = (self.between(1, 6), self.below(60));
+        let count = if self.once_in(60) { length } else { self.choose(&[0, 1, few, few, more]) };
+        (start, count.min(length - start))
+    }
+
+    /// The numbers of up to 64 stretches, of which some come again.
+    fn stretches(&mut self, shape: Shape, length: usize) -> Vec<usize> {
+        let (few, many) = (self.below(6), self.below(65));
+        let count = self.choose(&[0, 1, 1, 2, 3, few, few, few, many, 64]);
+        let mut stretches: Vec<Stretch> = Vec::new();
+        for _ in 0..count {
+            let again = !stretches.is_empty() && self.once_in(8);
+            let next = if again { self.choose(&stretches) } else { self.stretch(shape, length) };
+            stretches.push(next);
+        }
+        stretches.into_iter().flat_map(|(start, count)| [start, count]).collect()
+    }
+
+    /// Accepted stretches, from any k nodes.
+    pub fn wanted(&mut self, shape: Shape) -> Wanted {
+        let list = self.nodes(shape, shape.k);
+        self.wanted_from(shape, list)
+    }
+
+    /// Accepted stretches, from these nodes. In touched columns the data symbols are bytes where they are wanted, and
+    /// else anything up to 256; in the other columns stands anything.
+    pub fn wanted_from(&mut self, shape: Shape, list: Vec<usize>) -> Wanted {
+        let length = self.one_of(shape.capacity() + 1).max(self.below(4));
+        let (numbers, symbols) = (self.stretches(shape, length), self.garbage(shape.capacity()));
+        let (bytes_length, columns_length) = (0, shape.symbols());
+        let mut wanted = Wanted { shape, list, symbols, length, numbers, bytes_length, columns_length };
+        wanted.bytes_length = wanted.bytes().len();
+        let mut data = self.symbols(shape.capacity());
+        wanted.bytes().into_iter().for_each(|byte| data[byte] = data[byte].min(255));
+        hold(&mut wanted, &data);
+        wanted
+    }
+
+    /// Has one of the wanted bytes, if there are any, be 256.
+    pub fn want_no_byte(&mut self, wanted: &mut Wanted) {
+        let Wanted { shape, list, symbols, .. } = &*wanted;
+        let bytes = wanted.bytes();
+        if bytes.is_empty() {
+            return;
+        }
+        let at = self.one_of(bytes.len());
+        let (node, place) = (bytes[at] / shape.symbols(), bytes[at] % shape.symbols());
+        let mut data = vec![0; shape.capacity()];
+        let held = column(*shape, list, symbols, place);
+        (0..shape.k).for_each(|other| data[other * shape.symbols() + place] = held[other]);
+        data[node * shape.symbols() + place] = 256;
+        hold_place(wanted, &data, place);
+    }
+
+    /// Changes a stretch, so that it ends past the transcript or behind all numbers, or that the sum of the lengths is
+    /// another one, or wraps to what it was.
+    fn spoil_stretch(&mut self, wanted: &mut Wanted) {
+        let Wanted { length, numbers, .. } = wanted;
+        if numbers.len() < 4 {
+            return numbers.extend([self.choose(&[*length + 1, usize::MAX, 1 << 63]), 0]);
+        }
+        let (at, other) = (self.below(numbers.len() / 2) * 2, self.below(numbers.len() / 2) * 2);
+        let (count, far) = (numbers[at + 1], self.hostile(numbers[at]));
+        let (bit, near) = (1 << self.choose(&[8, 16, 32, 62, 63]), self.between(1, 3));
+        match self.below(6) {
+            0 => numbers[at] = self.choose(&[*length, *length + 1, far, numbers[at].wrapping_add(bit)]),
+            // The end wraps to a number within the transcript.
+            1 => numbers[at] = 0usize.wrapping_sub(self.choose(&[count, count / 2, 1])),
+            2 => numbers[at + 1] = self.hostile(count),
+            // One has more, and another less: the sum stays, if not as a sum of whole numbers.
+            3 | 4 => {
+                let more = self.choose(&[near, bit, usize::MAX]);
+                numbers[at + 1] = count.wrapping_add(more);
+                numbers[other + 1] = numbers[other + 1].wrapping_sub(more);
+            }
+            _ => [at, other].into_iter().for_each(|at| numbers[at + 1] = numbers[at + 1].wrapping_add(1 << 63)),
+        }
+    }
+
+    /// Makes stretches wrong, of nodes of that shape, in one of the ways in which they can be; some changes may leave
+    /// them right.
+    pub fn spoil_wanted(&mut self, shape: Shape, wanted: &mut Wanted) {
+        let (capacity, near) = (shape.capacity(), self.below(shape.capacity() + 1));
+        let Wanted { list, symbols, length, numbers, bytes_length, columns_length, .. } = wanted;
+        match self.below(14) {
+            0 => self.spoil_shape(&mut wanted.shape),
+            1 if !list.is_empty() => self.spoil_list(shape.n, list),
+            2 => symbols.resize(self.choose(&[capacity - 1, capacity + 1, 0]), 256),
+            3 => *length = self.choose(&[capacity + 1, usize::MAX, near + (1 << 32), near + (1 << 63)]),
+            4 | 5 => *length = self.choose(&[length.wrapping_sub(1).min(capacity), *length / 2, near, 0]),
+            6 => self.spoil_length(bytes_length),
+            7 => self.spoil_length(columns_length),
+            8 if self.once_in(2) => drop(numbers.pop()),
+            8 => numbers.push(near),
+            // 65 stretches or 66, of which the last are empty.
+            9 => numbers.resize(2 * self.between(65, 66), 0),
+            10 | 11 => self.spoil_stretch(wanted),
+            _ => {
+                let mut starts: Vec<usize> = wanted.stretches().into_iter().map(|(start, _)| start).collect();
+                starts.push(near);
+                let place = self.choose(&starts) % shape.symbols();
+                let index = self.below(shape.k) * shape.symbols() + place;
+                self.spoil_symbols(wanted.symbols.get_mut(index..=index).unwrap_or_default());
+            }
+        }
+    }
+
     /// A codeword of any symbols, 256 too: what random nodes 0 to k−1 restore to.
     pub fn codeword(&mut self, shape: Shape) -> Vec<u16> {
         let data = self.symbols(shape.capacity());
@@ -339,4 +453,18 @@ impl Random {
 pub fn codeword_of(shape: Shape, data: &[u16]) -> Vec<u16> {
     let list: Vec<usize> = (0..shape.k).collect();
     restore(shape, &list, data, shape.n * shape.symbols()).unwrap()
+}
+
+/// Has the listed nodes hold, in the touched columns, what the equations ask for where nodes 0 to k−1 are these.
+pub fn hold(wanted: &mut Wanted, data: &[u16]) {
+    wanted.touched().into_iter().for_each(|place| hold_place(wanted, data, place));
+}
+
+/// The same in one column.
+pub fn hold_place(wanted: &mut Wanted, data: &[u16], place: usize) {
+    let first: Vec<usize> = (0..wanted.shape.k).collect();
+    let column = column(wanted.shape, &first, data, place);
+    for (index, &node) in wanted.place_indices(place).into_iter().zip(&wanted.list) {
+        wanted.symbols[index] = column[node];
+    }
 }

@@ -126,7 +126,7 @@ fn fill_bytes(seed: u64, bytes: &mut [u8]) {
 }
 
 /// k nodes, rising: each node is taken with the chance that is left.
-fn picked(seed: u64, shape: Shape) -> Vec<usize> {
+pub fn picked(seed: u64, shape: Shape) -> Vec<usize> {
     let mut list = Vec::new();
     for (node, number) in (0..shape.nodes).zip(numbers(seed)) {
         let left = shape.nodes - node;

@@ -1,7 +1,7 @@
 //! Corrections (document 02 §10): for each n a digest of the answers and of the symbols that changed, and how many answers
 //! were 0, 1, 4, 5, 9 and 12.
 
-use super::digest::{line, mixed_all, next, number};
+use super::digest::{drawn, far_drawn, line, mixed_all, number};
 use hmsr::Shape;
 
 /// The changes that a case's correction goes through, by the numbers in `spoil`; and the cases of each kind.
@@ -22,16 +22,6 @@ struct Case {
     byte: usize,
     change: i64,
     symbols: Vec<u16>,
-}
-
-/// The next number behind a seed, which it replaces.
-fn drawn(seed: &mut u64) -> usize {
-    *seed = next(*seed);
-    *seed as usize
-}
-
-fn far_drawn(seed: &mut u64) -> usize {
-    drawn(seed) * 65521 + drawn(seed)
 }
 
 impl Case {
@@ -86,7 +76,7 @@ impl Case {
     }
 }
 
-fn spoil_shape(shape: &mut Shape, way: usize) {
+pub fn spoil_shape(shape: &mut Shape, way: usize) {
     match way {
         0 => shape.nodes = 2,
         1 => shape.nodes = 15,

@@ -13,6 +13,17 @@ pub fn numbers(seed: u64) -> impl Iterator<Item = u64> {
     successors(Some(next(seed)), |&number| Some(next(number)))
 }
 
+/// The next number behind a seed, which it replaces.
+pub fn drawn(seed: &mut u64) -> usize {
+    *seed = next(*seed);
+    *seed as usize
+}
+
+/// A number of two.
+pub fn far_drawn(seed: &mut u64) -> usize {
+    drawn(seed) * 65521 + drawn(seed)
+}
+
 /// A symbol: of seven numbers, `often` give the largest symbols, 256 downwards.
 fn symbol(often: u64, number: u64) -> u16 {
     let symbol = if number % 7 < often { 256 - number % 7 } else { number % 257 };

@@ -1,8 +1,9 @@
 //! The samples of document 01, and a card with a hearing number (document 02 §9): each call's answer and what it left in
 //! its buffers, a line for each; then the answers for lists of losses and orders of transfers (document 02 §6, §12), which
-//! fill no buffer; then corrections (§10).
+//! fill no buffer; then corrections (§10) and stretches (§2).
 
 use super::digest::{line, number};
+use crate::raw::open_stretches;
 use hmsr::{unpack, Header, Refusal, Repair, Shape};
 
 /// "n=3, k=1, L=1".
@@ -135,6 +136,56 @@ fn refused_corrections() -> String {
         + &line(&[-1, 0, -256].map(|change| answer(no_byte, 0, change)))
 }
 
+/// What the C call returns for stretches of the first archive, from one of its nodes, with 65535 in the columns of
+/// neither byte and a symbol in place of the first; and the bytes and columns.
+fn opened(node: usize, first: u16, length: usize, numbers: &[usize], bytes: usize) -> Vec<u64> {
+    let mut symbols = [65535; 8];
+    symbols[..2].copy_from_slice(&[first, first_archive()[8 * node + 1]]);
+    let (mut bytes, mut columns) = (vec![9; bytes], [9; 8]);
+    let returned = open_stretches(TINY, &[node], &symbols, length, numbers, &mut bytes, &mut columns);
+    let (bytes, columns) = (bytes.into_iter().map(u64::from), columns.into_iter().map(|column| column as u64));
+    [returned as u64].into_iter().chain(bytes).chain(columns).collect()
+}
+
+fn stretches() -> String {
+    let (node_1, node_2) = (first_archive()[8], first_archive()[16]);
+    let rows = [
+        opened(1, node_1, 2, &[1, 1, 0, 2, 2, 0], 3),
+        opened(2, node_2, 2, &[1, 1], 1),
+        opened(2, node_2, 2, &[], 0),
+        opened(1, 87, 2, &[0, 1], 1),
+        opened(1, 87, 2, &[1, 1], 1),
+        opened(1, 257, 2, &[0, 1], 1),
+        opened(1, 257, 2, &[1, 1], 1),
+    ];
+    rows.map(|row| line(&row)).concat() + &refused_stretches()
+}
+
+/// The answers alone, from node 1.
+fn refused_stretches() -> String {
+    let answer = |first, length, numbers: &[usize], bytes| opened(1, first, length, numbers, bytes)[0];
+    let (none, half) = ([2, 0], 1 << 63);
+    let lengths = [
+        answer(253, 2, &none.repeat(64), 0),
+        answer(253, 2, &none.repeat(65), 0),
+        answer(253, 2, &[0, 2, 0], 2),
+        answer(253, 2, &[0, 2], 1),
+        answer(253, 2, &[0, half, 0, half], 0),
+        answer(253, 9, &[9, 1], 1),
+    ];
+    let ends = [
+        answer(253, 2, &[1, 2], 2),
+        answer(253, 2, &[3, 0], 0),
+        answer(253, 2, &[usize::MAX, 2], 2),
+        answer(257, 2, &[0, 1, 2, 1], 2),
+    ];
+    let lists = [(0, 3), (1, 3), (1, 1)].map(|(layers, node)| {
+        let shape = Shape { layers, ..TINY };
+        open_stretches(shape, &[node], &[65535; 8], 2, &[0], &mut [], &mut [9; 8]) as u64
+    });
+    line(&lengths) + &line(&ends) + &line(&lists)
+}
+
 pub fn lines() -> String {
     let four = |layers| Shape { nodes: 4, data: 1, layers };
     let losses = [two_lost(TINY, &[2]), two_lost(four(1), &[2, 3]), two_lost(four(3), &[2, 3])];
@@ -157,6 +208,7 @@ pub fn lines() -> String {
         chosen_layers(),
         orders(),
         corrections(),
+        stretches(),
     ]
     .concat()
 }
