@@ -77,7 +77,7 @@ module _ (s : Shape) (list symbols : List ℕ) (shape : shapeBad s ≡ false) (u
     same-in i = rw (digits-mod i l) same
 
     -- a listed node has its own symbol
-    pub opened-own : (i j : ℕ) → i < s .k → j < s .k → getD list j 0 ≡ i → opened s list symbols (i * size s + place) ≡ symbol s symbols j place
+    opened-own : (i j : ℕ) → i < s .k → j < s .k → getD list j 0 ≡ i → opened s list symbols (i * size s + place) ≡ symbol s symbols j place
     opened-own i j h g e =
         sym (opened-alone s list symbols small (i * size s + place) (same-in i))
         ∙ opened-listed s list small small-readable i j place h g e l ∙ (unfold symbol in same j g)

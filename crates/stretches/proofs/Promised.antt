@@ -81,7 +81,7 @@ module _ (s : Shape) (list : List ℕ) (held len : ℕ) (st : List ℕ) (room en
       }
 
   -- what comes later has a part only where it passes
-  pub sizes-same : (x y : ℕ) → (stretchesSizeRefusal s list held len st room entries 0 ≡ 0 → x ≡ y)
+  sizes-same : (x y : ℕ) → (stretchesSizeRefusal s list held len st room entries 0 ≡ 0 → x ≡ y)
       → stretchesSizeRefusal s list held len st room entries x ≡ stretchesSizeRefusal s list held len st room entries y
   unfolding stretchesSizeRefusal
   sizes-same x y =
@@ -99,7 +99,7 @@ module _ (s : Shape) (list : List ℕ) (held len : ℕ) (st : List ℕ) (room en
       → stretchesSizeRefusal s list held len st room entries rest ≡ stretchesSizeRefusal s list held len st room entries 0
   sizes-turned rest h = sizes-same rest 0 (λ e. absurd (h e))
 
-  pub sizes-passed : (rest : ℕ) → stretchesSizeRefusal s list held len st room entries rest ≡ 0 → Sized s list held len st room entries
+  sizes-passed : (rest : ℕ) → stretchesSizeRefusal s list held len st room entries rest ≡ 0 → Sized s list held len st room entries
   unfolding stretchesSizeRefusal
   sizes-passed rest e =
       let one = passed (shapeBad s) 0 _ e in
@@ -108,7 +108,7 @@ module _ (s : Shape) (list : List ℕ) (held len : ℕ) (st : List ℕ) (room en
       let nine = passed (pastEnd st len) 8 rest (four .1) in
       sizes-accepted (rw (one .0, two .0, four .0, nine .0))
 
-pub refusal-passed : (s : Shape) (list symbols : List ℕ) (len : ℕ) (st : List ℕ) (room entries : ℕ) → stretchesRefusal narrow s list symbols len st room entries ≡ 0
+refusal-passed : (s : Shape) (list symbols : List ℕ) (len : ℕ) (st : List ℕ) (room entries : ℕ) → stretchesRefusal narrow s list symbols len st room entries ≡ 0
     → Sized s list (length symbols) len st room entries
 unfolding stretchesRefusal
 refusal-passed s list symbols len st room entries e = sizes-passed s list (length symbols) len st room entries _ e
@@ -202,7 +202,7 @@ module _ (s : Shape) (list symbols other st : List ℕ) (same : SameTouched s st
       ∙ sizes-same s list (length symbols) len st room entries _ _ (λ e.
       let w = sizes-accepted s list (length symbols) len st room entries e in data-same (w .count) (w .shape) (w .bounded))
 
-  pub gives-same : (len : ℕ) (before after columns columns-after : List ℕ) (answer : Read) → Gives s list symbols len st before after columns columns-after answer
+  gives-same : (len : ℕ) (before after columns columns-after : List ℕ) (answer : Read) → Gives s list symbols len st before after columns columns-after answer
       → Gives s list other len st before after columns columns-after answer
   gives-same len before after columns columns-after answer g = record {
     number = g .number ∙ sym e;
@@ -288,7 +288,7 @@ module _ (s : Shape) (list symbols : List ℕ) (len : ℕ) (st before columns ro
       back : length (take (stretchLength st m) (drop (stretchStart st m) transcript)) ≡ stretchLength st m
       back = length-take-le (stretchLength st m) (drop (stretchStart st m) transcript) (omega (arith, length-drop (stretchStart st m) transcript, transcript-length, w .few .ends m h))
 
-  pub stretches-opened : (after columns-after : List ℕ) (answer : Read) → Gives s list symbols len st before after columns columns-after answer
+  stretches-opened : (after columns-after : List ℕ) (answer : Read) → Gives s list symbols len st before after columns columns-after answer
       → (answer ≡ Symbols (symbolsRead s st)) × (after ≡ joined st transcript)
       × ((m : ℕ) → m < stretchCount st → take (stretchLength st m) (drop (bytesBefore st m) after) ≡ take (stretchLength st m) (drop (stretchStart st m) transcript))
   stretches-opened after columns-after answer g =

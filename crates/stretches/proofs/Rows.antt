@@ -18,7 +18,6 @@ use Rattle.stretches.specs.Steps.{Wanted, Uncut, Whole, Legible}
 use Rattle.stretches.proofs.Wanted.{wanted-touches}
 use Rattle.stretches.proofs.Runs.{leaves-on, uncut-whole, wanted-on}
 use Rattle.stretches.proofs.Alone.{small, small-readable}
-use Rattle.stretches.proofs.Judging.{wanted-bounded}
 
 module _ (s : Shape) (list symbols st : List ℕ) (w : Legible s list symbols st) (a run : ℕ) (u : Uncut st (2 ^ s .n) a (a + run))
     (b : ℕ) (wanted : Wanted st b) (leaves : b % 2 ^ s .n ≡ a) where
@@ -39,9 +38,6 @@ module _ (s : Shape) (list symbols st : List ℕ) (w : Legible s list symbols st
 
   pub run-whole : Whole st b run
   run-whole = uncut-whole st (2 ^ s .n) a (a + run) u b run leaves (omega arith)
-
-  pub run-below : b < s .k * size s
-  run-below = wanted-bounded st (s .k * size s) (w .bounded) b wanted
 
   pub run-low : (j t : ℕ) → j < s .k → t < run → getD symbols (j * size s + b % size s + t) 0 < narrow .modulus
   unfolding symbol

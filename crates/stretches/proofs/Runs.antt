@@ -134,7 +134,7 @@ module _ (st : List ℕ) (b run : ℕ) (w : Whole st b run) (t : ℕ) (h : t < r
   pub wanted-on : Wanted st b → Wanted st (b + t)
   wanted-on (m, l, i) = (m, l, stretch-on m l i)
 
-  pub wanted-back : Wanted st (b + t) → Wanted st b
+  wanted-back : Wanted st (b + t) → Wanted st b
   wanted-back (m, l, i) = (m, l, stretch-back m l i)
 
 -- a shorter run

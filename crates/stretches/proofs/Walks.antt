@@ -42,7 +42,7 @@ module _ (st : List ℕ) (b run : ℕ) (w : Whole st b run) where
         let z : bytesBefore st m + b - stretchStart st m + t ≡ bytesBefore st m + (b + t - stretchStart st m) = omega (arith, i .0) in
         (omega (arith, z, o .0), ap (byteAt st) z ∙ o .1 ∙ omega (arith, i .0))
 
-    pub comes-on : byteAt st (bytesBefore st m + b - stretchStart st m + t) ≡ b + t
+    comes-on : byteAt st (bytesBefore st m + b - stretchStart st m + t) ≡ b + t
     comes-on = out .1
 
   -- a run judged and stored there

@@ -83,7 +83,7 @@ module _ (st : List ℕ) where
 
   -- ---- all of them
 
-  pub wanted-length : length (wanted st) ≡ bytesWanted st
+  wanted-length : length (wanted st) ≡ bytesWanted st
   unfolding wanted bytesWanted
   wanted-length = front-length (stretchCount st)
 
@@ -100,7 +100,7 @@ module _ (st : List ℕ) where
   unfolding bytesWanted
   out-of e h = front-out (stretchCount st) e h
 
-  pub wanted-out : (b : ℕ) → Wanted st b → (e : ℕ) × (e < bytesWanted st) × (byteAt st e ≡ b)
+  wanted-out : (b : ℕ) → Wanted st b → (e : ℕ) × (e < bytesWanted st) × (byteAt st e ≡ b)
   wanted-out b (m, h, (low, high)) =
       let o = comes-out m (b - stretchStart st m) h (omega arith) in
       (bytesBefore st m + (b - stretchStart st m), o .0, o .1 ∙ omega arith)

@@ -171,7 +171,7 @@ fn earlier(b: usize, stop: usize, found: usize) -> usize
 }
 
 // The first wanted byte's number from `from` on that leaves `rest`, and `most` where there is none. Of a stretch that lies before, or behind
-// what was found, nothing is worked out: a remainder takes longer than all else here.
+// what was found, no remainder is worked out.
 fn next_wanted(stretches: &[usize], modulus: usize, rest: usize, from: usize, most: usize) -> usize
     requires { ⌜ Bounded (now stretches) most × (most ≤ 2 ^ 32) × (rest < modulus) × (modulus ≤ 2 ^ 32) × (from ≤ 2 ^ 32) ⌝ }
     ensures { λ b. ⌜ NextWanted (now (stretches .entry)) modulus rest from most b ⌝ }
