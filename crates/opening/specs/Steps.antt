@@ -38,7 +38,7 @@ pub record Factors (s : Shape) (list table : List ℕ) (place run : ℕ) : Type 
 -- what data node i, which is not listed, holds at `run` places
 pub record MissingRow (s : Shape) (place run i : ℕ) (table symbols row : List ℕ) : Type 0 where
   pub long : length row ≡ mostPlaces
-  pub each : (list : List ℕ) → Factors s list table place run → member i list ≡ false
+  pub each : (list : List ℕ) → Readable s list symbols → Factors s list table place run → member i list ≡ false
       → (t : ℕ) → t < run → opened s list symbols (i * size s + place + t) ≡ getD row t 0
 
 -- how many of `count` places from `at` on lie before the end

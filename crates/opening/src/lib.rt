@@ -134,7 +134,7 @@ fn open_listed(
 }
 
 // What data node i, which is not listed, holds at a run of places: of the multipliers there and of the k symbols at each place.
-pub fn missing_row(
+fn missing_row(
     s: Shape,
     place: usize,
     run: usize,
@@ -142,7 +142,7 @@ pub fn missing_row(
     table: &[u16],
     symbols: &[u16],
 ) -> [u16; RUN]
-    requires { ⌜ (shapeBad s ≡ false) × (i < s .k) × (run ≤ mostPlaces) × (place + run ≤ size s) × (length (now table) ≡ tableSize) × Low (narrow .modulus) (now table) × (length (now symbols) ≡ s .k * size s) × ((j t : ℕ) → j < s .k → t < run → getD (now symbols) (j * size s + place + t) 0 < narrow .modulus) ⌝ }
+    requires { ⌜ (shapeBad s ≡ false) × (i < s .k) × (run ≤ mostPlaces) × (place + run ≤ size s) × (length (now table) ≡ tableSize) × Low (narrow .modulus) (now table) × (length (now symbols) ≡ s .k * size s) × Low (narrow .modulus) (now symbols) ⌝ }
     ensures { λ row. ⌜ MissingRow s place run i (now (table .entry)) (now (symbols .entry)) row ⌝ }
 {
     let k = s.k;

@@ -1,7 +1,8 @@
 // Opening many stretches of a transcript from any k nodes in one reading (document 02 §2). Wanted bytes come in runs: between two numbers
 // that starts and ends of stretches leave modulo the places of a layer, or of a node, a stretch has all bytes of a run or none. So one
 // look decides about a run, and only runs of touched columns are looked at.
-use opening::missing_row;
+use code::node_numbers;
+use filling::sum_row;
 use opening::open_row;
 use patterns::pays;
 use patterns::represent;
@@ -9,6 +10,7 @@ use picking::run_multipliers;
 use rows::RUN;
 use rows::copy;
 use rows::run_from;
+use rows::store;
 use shape::Answer;
 use shape::MODULUS;
 use shape::Refusal;
@@ -262,14 +264,18 @@ fn data_row(
     requires { ⌜ (length (now table) ≡ tableSize) × Low (narrow .modulus) (now table) × (length (now symbols) ≡ s .k * size s) × ((j t : ℕ) → j < s .k → t < run → getD (now symbols) (j * size s + b % size s + t) 0 < narrow .modulus) ⌝ }
     ensures { λ row. ⌜ (length row ≡ mostPlaces) × (Factors s (now (list .entry)) (now (table .entry)) (b % size s) run → (t : ℕ) → t < run → opened s (now (list .entry)) (now (symbols .entry)) (b + t) ≡ getD row t 0) ⌝ }
 {
+    let k = s.k;
     let each = size(s);
     let node = b / each;
     let place = b % each;
+    let mut row = [0u16; RUN];
     if !marked[node] {
-        return missing_row(s, place, run, node, table, symbols);
+        let all = node_numbers();
+        let sums = sum_row(run, each, place, &all[..k], table, node * k, symbols);
+        store(MODULUS, run, sums, 0, &mut row);
+        return row;
     }
     let from = position(list, node) * each + place;
-    let mut row = [0u16; RUN];
     copy(run, symbols, from, 0, &mut row);
     row
 }

@@ -32,7 +32,7 @@ sum-row-requires : tie.Need-sum-row-requires
 sum-row-requires c κs =
     let s = c .before .before .before .before .before in
     let p = s .pre in
-    rw (c .before .size .ensures, c .before .before .node-numbers .ensures .1 _ (few s)) (missing-summable (s .args .s) (s .args .symbols .now) (s .args .table .now) (s .args .place) (s .args .run) (s .args .i) (p .0) (p .1) (p .2) (p .3) (p .4) (p .5) (p .6) (p .7))
+    rw (c .before .size .ensures, c .before .before .node-numbers .ensures .1 _ (few s)) (missing-summable (s .args .s) (s .args .symbols .now) (s .args .table .now) (s .args .place) (s .args .run) (s .args .i) (p .0) (p .1) (p .2) (p .3) (p .4) (p .5) (p .6) (λ j t _ _. p .7 .at _))
 
 slice-aggregate-store : tie.Need-slice-aggregate-store
 slice-aggregate-store c = refl
@@ -49,7 +49,7 @@ returns c =
     let summed = rw (c .before .before .before .before .before .size .ensures, c .before .before .before .before .before .before .node-numbers .ensures .1 _ (few s)) at (c .before .before .before .sum-row .ensures) in
     record {
       long = put .long;
-      each = λ list w unlisted t h.
+      each = λ list given w unlisted t h.
           missing-weighed (a .s) list (a .symbols .now) (a .place) (a .run) (s .pre .3) (a .table .now) (a .i) _ (s .pre .1) unlisted w summed t h
           ∙ sym (put .there t h) ∙ ap (λ z. getD (c .before .store .last .1 .1 .1 .1 .0) z 0) (let z : 0 + t ≡ t = omega arith in z);
     }

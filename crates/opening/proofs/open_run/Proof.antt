@@ -11,6 +11,7 @@ use lib.ListN.{length, getD, take}
 use Rattle.lists.specs.Lists.{member}
 use Rattle.shape.specs.Shape.{size, mostNodes}
 use Rattle.shape.proofs.Accepted.{shape-accepted, mostSize}
+use Rattle.rows.proofs.Rows.{low-each}
 use Rattle.filling.proofs.Filling.{row-room}
 use Rattle.filling.specs.Filling.{InRun}
 use Rattle.opening.specs.Steps.{opened, Walked, OneOf, AtRun}
@@ -52,7 +53,7 @@ walked c =
     let unlisted = sym (flagged (c .before .before .before .before .before)) ∙ c .before .before .before .before .if1 .left in
     walked-as _ _ _ (InRun (i * size (a .s) + a .place) (a .run)) (AtRun (a .s) (a .list .now) (a .run) (a .place) i) _ _ _ (λ e d. (unlisted, d)) (λ _ e d. d .1)
     (row-opened (a .s) (a .list .now) (a .symbols .now) (s .pre .0) (a .len) (a .room) (i * size (a .s) + a .place) (a .run) (take (a .run) (m .result)) _ _ _ (length-take-le _ _ few)
-    (λ t h. m .ensures .each (a .list .now) (s .pre .6) unlisted t h ∙ sym (getD-take (a .run) (m .result) t 0 h))
+    (λ t h. m .ensures .each (a .list .now) (s .pre .0) (s .pre .6) unlisted t h ∙ sym (getD-take (a .run) (m .result) t 0 h))
     (rw (c .before .before .before .before .before .before .before .size .ensures) at (c .open-row .ensures)))
 
 size-requires : tie.Need-size-requires Inv-loop μ-loop
@@ -72,7 +73,7 @@ loop-again c =
 missing-row-requires : tie.Need-missing-row-requires Inv-loop μ-loop
 missing-row-requires c κs =
     let p = c .before .before .before .before .before .before .before .before .pre in
-    (p .0 .shape, c .before .loop-test .taken, p .2, p .3, p .4, p .5, p .0 .long, λ j t h l. p .0 .small _ (omega (arith, p .0 .long, row-room _ _ j _ _ h (p .3))))
+    (p .0 .shape, c .before .loop-test .taken, p .2, p .3, p .4, p .5, p .0 .long, low-each _ _ (search needs) (p .0 .small))
 
 mul-open-row : tie.Need-mul-open-row Inv-loop μ-loop
 mul-open-row c = omega (arith, within (c .before .before))
