@@ -1,4 +1,6 @@
 // What hearing a helper and finishing turn back for (document 02 §8): the lists, the record of those heard, the kept sums.
+#![tactic(auto)]
+
 ghost use Rattle.std.specs.Prelude.{◌≡◌, not, ◌&&◌, ℕ, ◌≤◌, length};
 ghost use Rattle.lists.specs.Lists.{all, member};
 ghost use Rattle.shape.specs.Shape.{most_nodes};
@@ -11,7 +13,7 @@ use judging::judge_lists;
 use shape::{Answer, MODULUS, MOST_NODES, Refusal, Shape, listed, size, symbol_bad};
 
 // Where the nodes that a record counts stand in it.
-#[derive(Drop)]
+#[derive(Clone, Copy)]
 struct Part {
     from: usize,
     end: usize,

@@ -1,5 +1,7 @@
 // The symbols of one batch, by the members of a rank's class: sums of two places, own pairs stored at both, and one place from the other. The
 // other place of a sum is its first one, exclusive or the rank's turn.
+#![tactic(auto)]
+
 ghost use Rattle.std.specs.Prelude.{◌≡◌, true, ℕ, ◌+◌, ◌*◌, ◌%◌, ◌<◌, ◌≤◌, length, get_or};
 ghost use Rattle.std.specs.Int.Bits.{bit_xor};
 ghost use Rattle.lists.specs.Lists.{range, element, tabulate};

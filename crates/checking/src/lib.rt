@@ -1,4 +1,6 @@
 // The check of an archive (demand 2; document 02 §5).
+#![tactic(auto)]
+
 ghost use Rattle.std.specs.Prelude.{◌≡◌, false};
 ghost use Rattle.shape.specs.Shape.{byte_values};
 ghost use Rattle.shape.specs.Refusals.{shape_bad, answer_number};
@@ -17,7 +19,7 @@ use tables::marks;
 
 // What the check answers: sound, or "the first unmet equation by layer, then a, then t", or, where all equations are met, "the first such
 // symbol by node then place", one of nodes 0 to k-1 that is above 255 (document 02 §5).
-#[derive(Drop)]
+#[derive(Clone, Copy)]
 pub enum Checked {
     Sound,
     Unmet { layer: usize, a: usize, t: usize },

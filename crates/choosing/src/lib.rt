@@ -1,4 +1,6 @@
 // Layers for a whole list of losses (document 02 §6): the smallest L that serves each, in one pass over the list.
+#![tactic(auto)]
+
 ghost use Rattle.std.specs.Prelude.{◌^◌, ◌<◌};
 ghost use Rattle.shape.specs.Shape.{most_nodes};
 ghost use Rattle.choosing.specs.Promises.{Chooses, Common, Needed};
@@ -6,7 +8,7 @@ ghost use Rattle.choosing.specs.Promises.{Chooses, Common, Needed};
 use shape::{MOST_LAYERS, Refusal, Shape, batch, shape_bad, within};
 
 // What the choice answers: L, or why it turned back.
-#[derive(Drop)]
+#[derive(Clone, Copy)]
 pub enum Chosen {
     Layers(usize),
     Refused(Refusal),
@@ -26,7 +28,7 @@ fn common(l: usize, s: usize) -> usize
 
 // What one pass over a list of losses finds: whether one is outside its range, and otherwise the number whose multiples are the layers that
 // serve them all.
-#[derive(Drop)]
+#[derive(Clone, Copy)]
 struct Needs {
     outside: bool,
     least: usize,

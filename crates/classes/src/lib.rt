@@ -1,4 +1,6 @@
 // Layout and classes: what the shape and the dead nodes of a repair fix.
+#![tactic(auto)]
+
 ghost use Rattle.std.specs.Prelude.{◌≡◌, true, false, cond, ℕ, ◌+◌, ◌*◌, ◌/◌, ◌%◌, ◌^◌, ◌≤◌, ◌<◌, eqb, length, get_or};
 ghost use Rattle.std.specs.Int.Bits.{bit_xor};
 ghost use Rattle.lists.specs.Digits.{bit};
@@ -18,7 +20,7 @@ pub const MEMBERS: usize = 1 << MOST_NODES;
 pub const FEW: usize = 256;
 
 // What the shape and the dead nodes fix, worked out once for each call.
-#[derive(Drop)]
+#[derive(Clone, Copy)]
 pub struct Layout {
     pub shape: Shape,
     // 2^n, the places of a layer.

@@ -1,5 +1,7 @@
 // Columns of every size from 3 entries to the most, modulo 257 and 65537, completed from some of their entries. Prints a line for each modulus and size:
 // the modulus, the size and a digest of every completed column. tests/column_expected.py works the same lines out by another way.
+#![tactic(auto)]
+
 ghost use Rattle.std.specs.Prelude.{◌≡◌, ◌+◌, ◌*◌, ◌-◌, ◌≤◌, ◌<◌, length};
 ghost use Rattle.lists.specs.Lists.{tabulate};
 ghost use Rattle.field.specs.Residues.{Prime};

@@ -1,5 +1,7 @@
 // Whether the nodes that are not listed hold what would be filled in from those that are, a run of places at a time: as in filling, and
 // nothing is written.
+#![tactic(auto)]
+
 ghost use Rattle.std.specs.Prelude.{◌≡◌, true, false, ◌+◌, ◌^◌, ◌<◌, ◌≤◌, length};
 ghost use Rattle.shape.specs.Shape.{size};
 ghost use Rattle.shape.specs.Refusals.{shape_bad};

@@ -1,4 +1,6 @@
 // The column that meets the parity equations, from the values at some of its entries.
+#![tactic(auto)]
+
 ghost use Rattle.std.specs.Prelude.{◌≡◌, ℕ, ◌-◌, ◌<◌, ◌≤◌, true, length, take};
 ghost use Rattle.lists.specs.Lists.{element, others, rising};
 ghost use Rattle.field.specs.Residues.{minus};

@@ -1,4 +1,6 @@
 // Correcting one byte of a transcript in all n nodes (document 02 §10).
+#![tactic(auto)]
+
 ghost use Rattle.std.specs.Prelude.{◌≡◌, true, false, ℕ, ◌+◌, ◌*◌, ◌%◌, ◌<◌, length, get_or, set};
 ghost use Rattle.lists.specs.Lists.{element, tabulate};
 ghost use Rattle.shape.specs.Shape.{most_nodes, size};

@@ -1,5 +1,7 @@
 // The nodes that are not listed, filled in from those that are, a run of places at a time: each symbol is the sum of the listed nodes'
 // symbols at its place, each times a multiplier that serves all layers.
+#![tactic(auto)]
+
 ghost use Rattle.std.specs.Prelude.{◌≡◌, true, false, ◌+◌, ◌*◌, ◌/◌, ◌^◌, ◌<◌, ◌≤◌, length};
 ghost use Rattle.shape.specs.Shape.{most_nodes, size};
 ghost use Rattle.shape.specs.Refusals.{shape_bad};

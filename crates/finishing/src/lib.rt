@@ -1,5 +1,7 @@
 // Finishing a first step (document 02 §8): at each sum the kept known sides of the r equations are solved for the r unknowns, and these are
 // the own pairs and the outgoing messages.
+#![tactic(auto)]
+
 ghost use Rattle.std.specs.Prelude.{◌≡◌, true, ℕ, ◌+◌, ◌-◌, ◌*◌, ◌≤◌, ◌<◌, length, get_or};
 ghost use Rattle.lists.specs.Lists.{element, rising};
 ghost use Rattle.field.specs.Residues.{minus};

@@ -1,4 +1,6 @@
 // Hearing a helper (document 02 §8): its message is added to the kept sums of the equations, and the helper noted in the record.
+#![tactic(auto)]
+
 ghost use Rattle.std.specs.Prelude.{◌≡◌, ◌+◌, ◌*◌, ◌%◌, ◌≤◌, ◌<◌, length};
 ghost use Rattle.lists.specs.Lists.{element};
 ghost use Rattle.shape.specs.Shape.{most_nodes};

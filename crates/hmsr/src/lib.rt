@@ -1,4 +1,6 @@
 // The C interface: each function hands its numbers and buffers to the call of that name, and returns a number. It demands nothing of the numbers and buffers that it is handed.
+#![tactic(auto)]
+
 ghost use Rattle.shape.specs.Refusals.{answer_number};
 ghost use Rattle.code.specs.Promises.{Writes, Restores, Opens};
 ghost use Rattle.checking.specs.Promises.{Checks};

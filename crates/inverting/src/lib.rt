@@ -1,4 +1,6 @@
 // The inverses of a row of numbers modulo a prime, by one power.
+#![tactic(auto)]
+
 ghost use Rattle.std.specs.Prelude.{◌≡◌, ◌<◌, length};
 ghost use Rattle.inverting.specs.Inverses.{Products, Inverted};
 

@@ -1,4 +1,6 @@
 // What the calls of a repair turn back for.
+#![tactic(auto)]
+
 ghost use Rattle.std.specs.Prelude.{◌≡◌, true, false, not, ◌*◌, length};
 ghost use Rattle.shape.specs.Shape.{size};
 ghost use Rattle.shape.specs.Refusals.{answer_number, shape_bad};

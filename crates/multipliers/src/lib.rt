@@ -1,1 +1,2 @@
 // Definitions and laws of multipliers; no functions.
+#![tactic(auto)]

@@ -1,4 +1,6 @@
 // Numbers in seven-bit groups: read from a card or a program's input, and written.
+#![tactic(auto)]
+
 ghost use Rattle.std.specs.Prelude.{◌≡◌, true, ◌+◌, ◌^◌, ◌≤◌, ◌<◌, length};
 ghost use mathlib.Core.List.{flat_map};
 ghost use Rattle.std.proofs.lemmas.List.Edits.{sets};
@@ -12,7 +14,7 @@ pub const MOST_GROUPS: usize = 4;
 const GROUP_VALUES: usize = 128;
 
 // What is read at a place: a number and the place behind it.
-#[derive(Drop)]
+#[derive(Clone, Copy)]
 pub enum Number {
     Read { value: usize, next: usize },
     Malformed,

@@ -1,6 +1,8 @@
 // Numbers, executed: two groups of cases, the answers of each in one line of output: a digest of them, and behind it how often
 // each number was answered, 0 to 8. The stored output is written by another program, from document 01 alone:
 // python3 tests/card_expected.py numbers > crates/numbers_test/stdout
+#![tactic(auto)]
+
 use libc::STDOUT_FILENO;
 use numbers::Number;
 
@@ -15,7 +17,7 @@ const PRIME: u64 = 4294967291;
 const BASE: u64 = 1000003;
 
 // A digest, and how often a number was read (0) or malformed (6); reading answers nothing else.
-#[derive(Drop)]
+#[derive(Clone, Copy)]
 struct Tally {
     digest: u64,
     read: u64,

@@ -1,5 +1,7 @@
 // Opening: a transcript from any k nodes of an archive (demand 2). A data node that is listed is copied; the symbols of another are sums of
 // the k listed ones at their place, each times a multiplier of its a, which serves all layers (document 02, §4).
+#![tactic(auto)]
+
 ghost use Rattle.std.specs.Prelude.{◌≡◌, true, false, List, ℕ, ◌+◌, ◌*◌, ◌^◌, ◌≤◌, ◌<◌, length, get_or};
 ghost use Rattle.lists.specs.Lists.{element};
 ghost use Rattle.shape.specs.declared.Shape.{Shape};

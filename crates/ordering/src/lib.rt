@@ -1,4 +1,6 @@
 // Whether the transfers of a repair may run in an order (document 02 §12): one pass over the list, with a table of what has been sent.
+#![tactic(auto)]
+
 ghost use Rattle.std.specs.Prelude.{◌≡◌, ◌<◌};
 ghost use Rattle.lists.specs.Lists.{all};
 ghost use Rattle.shape.specs.Shape.{most_nodes};

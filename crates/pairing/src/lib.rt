@@ -1,4 +1,6 @@
 // The first step of a new node, by itself: its own pairs, and its messages to the other new nodes.
+#![tactic(auto)]
+
 ghost use Rattle.std.specs.Prelude.{◌≡◌, false, ℕ, ◌+◌, ◌-◌, ◌*◌, ◌≤◌, ◌<◌, length};
 ghost use Rattle.lists.specs.Lists.{element};
 ghost use Rattle.rows.specs.Rows.{most_places};

@@ -1,6 +1,8 @@
 // The patterns that a's bits make at the nodes that are not listed: a multiplier reads the points of its listed node and of the nodes that are
 // not listed, that is, a's bits there, and stays where all of them turn. So one a is worked out for each pattern, with the bits of the listed
 // nodes 0.
+#![tactic(auto)]
+
 ghost use Rattle.std.specs.Prelude.{◌≡◌, true, ℕ, ◌+◌, ◌*◌, ◌^◌, ◌<◌, ◌≤◌, length, get_or};
 ghost use Rattle.lists.specs.Lists.{element, rising};
 ghost use Rattle.lists.specs.Digits.{bit};

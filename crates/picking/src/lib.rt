@@ -1,5 +1,7 @@
 // The multipliers of a run of places, picked from those of few a: by the patterns of the run's a, and where the bit of a listed node is 1 by
 // the opposite ones.
+#![tactic(auto)]
+
 ghost use Rattle.std.specs.Prelude.{◌≡◌, Bool, true, false, List, ℕ, ◌+◌, ◌*◌, ◌^◌, ◌<◌, ◌≤◌, length, get_or};
 ghost use Rattle.lists.specs.Lists.{member, rising};
 ghost use Rattle.shape.specs.Shape.{most_nodes};

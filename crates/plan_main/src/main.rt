@@ -1,4 +1,6 @@
 // The plan program: standard input to standard output.
+#![tactic(auto)]
+
 ghost use Rattle.std.specs.Prelude.{◌≡◌, length};
 ghost use Rattle.io.specs.Counts.{IsPrefixLen};
 ghost use Rattle.transfers.specs.Plan.{most_input};

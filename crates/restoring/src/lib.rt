@@ -1,4 +1,6 @@
 // All n nodes of an archive from any k of them.
+#![tactic(auto)]
+
 ghost use Rattle.std.specs.Prelude.{◌≡◌, true, ◌*◌, length};
 ghost use Rattle.lists.specs.Lists.{rising};
 ghost use Rattle.shape.specs.Refusals.{answer_number};

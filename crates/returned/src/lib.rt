@@ -1,4 +1,6 @@
 // The numbers that the C interface returns, the room that its unpacking lends, and the header's numbers in their buffer.
+#![tactic(auto)]
+
 ghost use Rattle.std.specs.Prelude.{◌≡◌, false, ◌-◌, ◌^◌, ◌<◌, length};
 ghost use Rattle.shape.specs.Shape.{size};
 ghost use Rattle.shape.specs.Refusals.{answer_number, shape_bad};

@@ -1,4 +1,6 @@
 // Rows: what stands at consecutive places, worked on together, one loop for each step, which a compiler turns into vector instructions.
+#![tactic(auto)]
+
 ghost use Rattle.std.specs.Prelude.{◌≡◌, ℕ, ◌+◌, ◌*◌, ◌%◌, ◌<◌, ◌≤◌, length, get_or};
 ghost use Rattle.lists.specs.Lists.{element};
 ghost use Rattle.inverting.specs.Inverses.{Pivots};

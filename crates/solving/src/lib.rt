@@ -1,5 +1,7 @@
 // What a first step needs of the columns of a run of sums: sums of the helpers' sums, each times a multiplier that serves all batches. Own
 // symbols are spread over their places, the other new nodes' sums handed out.
+#![tactic(auto)]
+
 ghost use Rattle.std.specs.Prelude.{◌≡◌, true, ℕ, ◌+◌, ◌*◌, ◌^◌, ◌≤◌, ◌<◌, length, get_or};
 ghost use Rattle.lists.specs.Lists.{rising};
 ghost use Rattle.shape.specs.Shape.{most_nodes};

@@ -1,4 +1,6 @@
 // A helper's message to a new node, and the second step of a new node.
+#![tactic(auto)]
+
 ghost use Rattle.std.specs.Prelude.{◌≡◌, ◌-◌, ◌*◌, ◌≤◌, ◌<◌, length};
 ghost use Rattle.lists.specs.Lists.{element};
 ghost use Rattle.shape.specs.Shape.{size};

@@ -1,6 +1,8 @@
 // Opening many stretches of a transcript from any k nodes in one reading (document 02 §2). Wanted bytes come in runs: between two numbers
 // that starts and ends of stretches leave modulo the places of a layer, or of a node, a stretch has all bytes of a run or none. So one
 // look decides about a run, and only runs of touched columns are looked at.
+#![tactic(auto)]
+
 ghost use Rattle.std.specs.Prelude.{◌≡◌, ◌⊎◌, true, false, ℕ, ◌+◌, ◌-◌, ◌*◌, ◌%◌, ◌^◌, ◌≤◌, ◌<◌, length, get_or};
 ghost use Rattle.lists.specs.Lists.{member, rising};
 ghost use Rattle.shape.specs.Shape.{size};
@@ -29,7 +31,7 @@ use tables::{FLAGS, TABLE, marks};
 const MOST_NUMBERS: usize = 128;
 
 // The symbols read, k times the count of touched columns, or why the call turned back.
-#[derive(Drop)]
+#[derive(Clone, Copy)]
 pub enum Read {
     Symbols(usize),
     Refused(Refusal),

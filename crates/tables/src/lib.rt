@@ -1,4 +1,6 @@
 // The multipliers of a run of places, worked out together: for each entry of a column that is not listed, a row for each listed one.
+#![tactic(auto)]
+
 ghost use Rattle.std.specs.Prelude.{◌≡◌, true, false, List, ℕ, ◌+◌, ◌*◌, ◌^◌, ◌<◌, ◌≤◌, length, get_or};
 ghost use Rattle.lists.specs.Lists.{element, rising};
 ghost use Rattle.shape.specs.Shape.{most_nodes};

@@ -1,4 +1,6 @@
 // The transfers of a repair, and their text: what the plan program prints for lists that it accepts, and the line of a refusal.
+#![tactic(auto)]
+
 ghost use Rattle.std.specs.Prelude.{◌≡◌, ◌+◌, ◌≤◌, ◌<◌, length, get_or};
 ghost use mathlib.Core.List.{[], ◌∷◌, flat_map};
 ghost use Rattle.shape.specs.Shape.{most_nodes};
@@ -10,7 +12,7 @@ ghost use Rattle.transfers.specs.Promises.{Few, Plannable, Puts};
 use shape::{Refusal, Shape, number_of};
 
 // A message of the plan, by its nodes.
-#[derive(Drop)]
+#[derive(Clone, Copy)]
 pub struct Transfer {
     pub sender: usize,
     pub receiver: usize,

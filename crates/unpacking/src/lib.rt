@@ -1,4 +1,6 @@
 // Node files unpacked: the header read and judged, every symbol judged, and only then the symbols written.
+#![tactic(auto)]
+
 ghost use Rattle.std.specs.Prelude.{◌≡◌, ◌≤◌, length, drop};
 ghost use Rattle.shape.specs.Shape.{symbol_values};
 ghost use Rattle.shape.specs.Refusals.{answer_number};

@@ -1,4 +1,6 @@
 // The work of a whole repair: the helpers' messages on the wire, then each new node's first step, then each second step.
+#![tactic(auto)]
+
 ghost use Rattle.std.specs.Prelude.{◌≡◌, true, ℕ, ◌+◌, ◌-◌, ◌*◌, ◌^◌, ◌≤◌, ◌<◌, length, get_or};
 ghost use Rattle.lists.specs.Lists.{element, rising};
 ghost use Rattle.shape.specs.Shape.{size};

@@ -1,4 +1,6 @@
 // Writing: the n nodes of an archive from a transcript (demand 2).
+#![tactic(auto)]
+
 ghost use Rattle.std.specs.Prelude.{◌≡◌, ◌+◌, ◌≤◌, length};
 ghost use Rattle.lists.specs.Lists.{element};
 ghost use Rattle.rows.specs.Rows.{Stored};
