@@ -1,0 +1,23 @@
+-- The terms added and turned into those of the next equation, one at a time.
+use mathlib.Core.Path.{◌≡◌, refl, sym, ap, ◌∙◌}
+use Prim.Native.Nat.{ℕ, ◌+◌, ◌-◌, ◌*◌, ◌%◌, ◌≤◌, ◌<◌}
+use native.Mathlib.Numerals.{add-one}
+use native.Mathlib.Omega.{arith}
+use lib.ListN.{length, length-set}
+use lib.Seq.{get_or-set_other}
+use Rattle.lists.specs.Lists.{element}
+use Rattle.lists.specs.Sums.{sum}
+use Rattle.lists.proofs.Sums.{sum_suc}
+use Rattle.lists.proofs.Stores.{stored_more}
+use Rattle.column.specs.Solving.{most_entries}
+use borrow.Author.Rules.{rules}
+use Rattle.column.proofs.advance.Given as goal
+
+abbrev pub invariant-loop-i : goal.invariant-loop-i
+invariant-loop-i l =
+    (l.i ≤ length l.points) × (l.i-end ≡ length l.points) × (length l.terms ≡ length l.initial.terms) × (l.sum ≤ l.i * 4294967295) × (l.sum ≡ sum l.i (element l.initial.terms))
+    × ((k : ℕ) → l.i ≤ k → element l.terms k ≡ element l.initial.terms k)
+    × ((k : ℕ) → k < l.i → element l.terms k ≡ (element l.initial.terms k * element l.points k) % l.q)
+
+abbrev pub decreases-loop-i : goal.decreases-loop-i
+decreases-loop-i l = length l.points - l.i

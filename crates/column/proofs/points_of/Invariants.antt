@@ -1,0 +1,16 @@
+-- The points of a Vandermonde matrix, one at a time.
+use mathlib.Core.Path.{◌≡◌, refl}
+use Prim.Native.Nat.{ℕ, ◌-◌, ◌≤◌, ◌<◌}
+use native.Mathlib.Omega.{arith}
+use lib.ListN.{length, length-set}
+use Rattle.lists.specs.Lists.{element}
+use Rattle.lists.proofs.Stores.{stored_more}
+use Rattle.column.specs.Solving.{most_entries, cell}
+use borrow.Author.Rules.{rules}
+use Rattle.column.proofs.points_of.Given as goal
+
+abbrev pub invariant-loop-j : goal.invariant-loop-j
+invariant-loop-j l = (l.j ≤ l.r) × (length l.points ≡ most_entries) × ((k : ℕ) → k < l.j → element l.points k ≡ cell l.powers k 1)
+
+abbrev pub decreases-loop-j : goal.decreases-loop-j
+decreases-loop-j l = l.r - l.j

@@ -1,0 +1,19 @@
+-- `column::substituted` meets its contract. Assumes nothing.
+use mathlib.Core.Path.{◌≡◌, sym, ap, ◌∙◌}
+use Prim.Native.Nat.{ℕ, ◌-◌, ◌*◌, ◌%◌, ◌≤◌, ◌<◌}
+use native.Mathlib.Omega.{arith}
+use lib.ListN.{length, length-set}
+use Rattle.lists.specs.Lists.{element}
+use Rattle.field.specs.Residues.{minus}
+use Rattle.inverting.specs.Inverses.{Pivots}
+use Rattle.column.specs.Solving.{most_entries, pivot, Meets}
+use Rattle.inverting.proofs.Inverses.{pivots_ext}
+use Rattle.column.proofs.Substitution.{divided_back, value_more}
+use borrow.Author.Rules.{rules}
+use Rattle.column.proofs.substituted.Given as goal
+
+abbrev pub invariant-loop-i : goal.invariant-loop-i
+invariant-loop-i l = (l.i ≤ l.r) × (length l.values ≡ most_entries) × (Pivots l.q l.r (pivot l.triangle) → (l : ℕ) → l.i ≤ l → l < l.r → Meets l.q l.r l.triangle l.right l.values l)
+
+abbrev pub decreases-loop-i : goal.decreases-loop-i
+decreases-loop-i l = l.i

@@ -1,0 +1,18 @@
+-- The triangle, a row for each equation, each from the one before.
+use mathlib.Core.Path.{◌≡◌, refl, ◌∙◌}
+use mathlib.Core.List.{List, []}
+use Prim.Native.Nat.{ℕ, ◌-◌, ◌≤◌, ◌<◌}
+use native.Mathlib.Omega.{arith}
+use lib.ListN.{length, get_or, length-set, replicate, get_or-replicate}
+use Rattle.lists.specs.Lists.{element}
+use Rattle.lists.proofs.Stores.{stored_more}
+use Rattle.column.specs.Solving.{most_entries, differences}
+use Rattle.column.proofs.Elimination.{differences_none_at, differences_next}
+use borrow.Author.Rules.{rules}
+use Rattle.column.proofs.triangle.Given as goal
+
+abbrev pub invariant-loop-i : goal.invariant-loop-i
+invariant-loop-i l = (l.i ≤ l.r) × (length l.out ≡ most_entries) × Row l.q l.r l.points l.i l.row × ((k : ℕ) → k < l.i → Row l.q l.r l.points k (get_or l.out k []))
+
+abbrev pub decreases-loop-i : goal.decreases-loop-i
+decreases-loop-i l = l.r - l.i

@@ -1,0 +1,40 @@
+-- `numbers::read_number` meets its contract: one group or two, and else as `read_groups` reads.
+use mathlib.Core.Path.{refl, sym}
+use Prim.Native.Nat.{◌+◌, ◌*◌, ◌/◌, ◌≤◌, ◌<◌}
+use native.Mathlib.Nat.{mul-le-mul}
+use native.Mathlib.Omega.{arith}
+use borrow.Author.Rules.{rules}
+use borrow.Author.Tests.{ltb-true}
+use Rattle.shape.specs.Shape.{byte_values}
+use Rattle.numbers.specs.Numbers.{most_groups, group_values}
+use Rattle.numbers.proofs.Groups.{at_cut, read_two}
+use Rattle.numbers.proofs.read_number.Goals as goal
+use Rattle.numbers.proofs.read_number.Goals.{After-wide-b, Then-high-lt-GROUP_VALUES}
+
+pub returns-then-bytes-at : goal.returns-then-bytes-at
+returns-then-bytes-at c = sym (at_cut most_groups _ _ c.if-bytes-at.true)
+
+byte : (c : After-wide-b) → c.wide-b.result < byte_values
+byte c = omega (arith, c.type_inv.bytes c.args.at, c.wide-b.ensures)
+
+pub overflow_mul-high : goal.overflow_mul-high
+overflow_mul-high c =
+    let w = (goal.at.overflow_mul-high c).After-wide-b in
+    let at = w.args.at in
+    let a : w.wide-b.result / group_values ≤ 1 = omega (arith, byte w) in
+    let b : c.wide.result ≤ byte_values = omega (arith, c.type_inv.bytes (at + 1), c.wide.ensures) in
+    omega (arith, mul-le-mul a b)
+
+high_small : (c : Then-high-lt-GROUP_VALUES) → c.wide-b.result / group_values * c.wide.result < group_values
+high_small c = ltb-true _ group_values c.if-high-lt-GROUP_VALUES.true
+
+pub returns-then-high-lt-GROUP_VALUES : goal.returns-then-high-lt-GROUP_VALUES
+returns-then-high-lt-GROUP_VALUES c =
+    let w = (goal.at.returns-then-high-lt-GROUP_VALUES c).After-wide-b in
+    read_two _ _ _ _ _ _ (omega arith) w.wide-b.ensures c.wide.ensures (byte w) refl refl (omega arith) (high_small c)
+
+pub overflow_mul-result : goal.overflow_mul-result
+overflow_mul-result c = omega (arith, high_small c)
+
+pub overflow_add-result : goal.overflow_add-result
+overflow_add-result c = omega (arith, high_small c)
