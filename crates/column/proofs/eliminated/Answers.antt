@@ -9,11 +9,8 @@ use Rattle.lists.proofs.Stores.{stored_more}
 use Rattle.column.specs.Solving.{most_entries, less, eliminated}
 use Rattle.column.proofs.Elimination.{less_ext, eliminated_more}
 use borrow.Author.Rules.{rules}
+use Rattle.column.proofs.eliminated.Invariants.{top}
 use Rattle.column.proofs.eliminated.Goals as goal
-
--- equation i once the points before i are eliminated
-top : ℕ → List ℕ → List ℕ → ℕ → ℕ
-top q points side i = eliminated q (element points) i (element side) 0
 
 pub loop-i-init : goal.loop-i-init
 unfolding eliminated
@@ -25,11 +22,11 @@ loop-i-preserved c =
     let s = c.args in (
       search rules,
       simp length-set l.invariant.1,
-      stored_more (λ k x. x ≡ top s.q s.t3 s.side k) l.out l.i _ 0 (omega arith) l.invariant.2 (l.invariant.3 0 (omega arith)),
+      stored_more (λ k x. x ≡ top s.q s.points s.side k) l.out l.i _ 0 (omega arith) l.invariant.2 (l.invariant.3 0 (omega arith)),
       λ t h.
           c.less-next.ensures t (omega arith)
-          ∙ less_ext s.q (element s.t3 l.i) _ _ t (l.invariant.3 t (omega arith)) (l.invariant.3 (t + 1) (omega arith))
-          ∙ sym (eliminated_more s.q (element s.t3) l.i (element s.side) t),
+          ∙ less_ext s.q (element s.points l.i) _ _ t (l.invariant.3 t (omega arith)) (l.invariant.3 (t + 1) (omega arith))
+          ∙ sym (eliminated_more s.q (element s.points) l.i (element s.side) t),
     )
 
 pub returns : goal.returns

@@ -11,10 +11,14 @@ use Rattle.column.proofs.Elimination.{less_ext, eliminated_more}
 use borrow.Author.Rules.{rules}
 use Rattle.column.proofs.eliminated.Given as goal
 
+-- equation i once the points before i are eliminated
+abbrev pub top : ℕ → List ℕ → List ℕ → ℕ → ℕ
+top q points side i = eliminated q (element points) i (element side) 0
+
 abbrev pub invariant-loop-i : goal.invariant-loop-i
-invariant-loop-i l =
-    (l.i ≤ l.r) × (length l.out ≡ most_entries) × ((l : ℕ) → l < l.i → element l.out l ≡ top l.q l.points l.initial.left l)
-    × ((t : ℕ) → t < l.r - l.i → element l.left t ≡ eliminated l.q (element l.points) l.i (element l.initial.left) t)
+invariant-loop-i s =
+    (s.i ≤ s.r) × (length s.out ≡ most_entries) × ((l : ℕ) → l < s.i → element s.out l ≡ top s.q s.points s.initial.left l)
+    × ((t : ℕ) → t < s.r - s.i → element s.left t ≡ eliminated s.q (element s.points) s.i (element s.initial.left) t)
 
 abbrev pub decreases-loop-i : goal.decreases-loop-i
 decreases-loop-i l = l.r - l.i

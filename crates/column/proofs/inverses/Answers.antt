@@ -10,7 +10,7 @@ use Rattle.column.proofs.inverses.Goals as goal
 use Rattle.column.proofs.inverses.Goals.{Start}
 
 -- there is a pivot for each inverse
-few : (c : Start) → c.args.r ≤ length c.args.t3
+few : (c : Start) → c.args.r ≤ length c.args.pivots
 few c = omega (arith, c.requires.1, c.requires.2)
 
 pub slice_bounds-invert-end : goal.slice_bounds-invert-end

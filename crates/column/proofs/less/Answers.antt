@@ -21,8 +21,8 @@ loop-t-preserved c =
     let s = c.args in (
       search rules,
       simp length-set l.invariant.1,
-      stored_more (λ k x. x ≡ less s.q s.x (element s.t4) k) l.out l.t _ 0 (omega arith) l.invariant.2
-          (c.subtract.ensures.1 ∙ ap (minus s.q (element s.t4 (l.t + 1))) c.multiply.ensures.1 ∙ minus_mod _ _ _),
+      stored_more (λ k x. x ≡ less s.q s.x (element s.side) k) l.out l.t _ 0 (omega arith) l.invariant.2
+          (c.subtract.ensures.1 ∙ ap (minus s.q (element s.side (l.t + 1))) c.multiply.ensures.1 ∙ minus_mod _ _ _),
     )
 
 pub returns : goal.returns

@@ -19,8 +19,8 @@ loop-j-preserved c =
     let s = c.args in (
       search rules,
       simp length-set l.invariant.1,
-      stored_more (λ k y. y ≡ (element s.t5 k * minus s.q (element s.t3 k) s.x) % s.q) l.out l.j _ 0 (omega arith) l.invariant.2
-          (c.multiply.ensures.1 ∙ ap (λ z. (element s.t5 l.j * z) % s.q) c.subtract.ensures.1),
+      stored_more (λ k y. y ≡ (element s.row k * minus s.q (element s.points k) s.x) % s.q) l.out l.j _ 0 (omega arith) l.invariant.2
+          (c.multiply.ensures.1 ∙ ap (λ z. (element s.row l.j * z) % s.q) c.subtract.ensures.1),
     )
 
 pub returns : goal.returns

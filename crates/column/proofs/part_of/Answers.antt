@@ -16,10 +16,10 @@ unfolding term
 loop-d-preserved c =
     let l = c.loop-d in
     let s = c.args in
-    (search rules, c.add-total.ensures.0, c.add-total.ensures.1 ∙ sum_more s.q (term s.t4 s.values.now s.start) l.d _ _ l.invariant.2 c.multiply.ensures.1)
+    (search rules, c.add-total.ensures.0, c.add-total.ensures.1 ∙ sum_more s.q (term s.row s.values.now s.start) l.d _ _ l.invariant.2 c.multiply.ensures.1)
 
 pub returns : goal.returns
 returns c =
     let l = c.loop-d in
     let s = c.args in
-    (l.invariant.1, l.invariant.2 ∙ ap (λ n. sum n (term s.t4 s.values.now s.start) % s.q) (omega arith))
+    (l.invariant.1, l.invariant.2 ∙ ap (λ n. sum n (term s.row s.values.now s.start) % s.q) (omega arith))

@@ -15,7 +15,7 @@ loop-j-init c = (search rules, search rules, λ k h. absurd (omega arith))
 pub loop-j-preserved : goal.loop-j-preserved
 loop-j-preserved c =
     let l = c.loop-j in
-    (search rules, simp length-set l.invariant.1, stored_more (λ k x. x ≡ cell c.args.t2 k 1) l.points l.j _ 0 (omega arith) l.invariant.2 refl)
+    (search rules, simp length-set l.invariant.1, stored_more (λ k x. x ≡ cell c.args.powers k 1) l.points l.j _ 0 (omega arith) l.invariant.2 refl)
 
 pub returns : goal.returns
 returns c = λ j h. c.loop-j.invariant.2 j (omega arith)

@@ -28,14 +28,14 @@ loop-i-preserved c =
       search rules,
       simp length-set l.invariant.1,
       λ w.
-          value_more s.q s.r s.t3 s.t4 l.values (l.i - 1) c.multiply.result (omega arith) (omega arith)
+          value_more s.q s.r s.triangle s.right l.values (l.i - 1) c.multiply.result (omega arith) (omega arith)
           (λ k h. l.invariant.2 w k (omega arith))
           c.multiply.ensures.0
           (divided_back s.q w.prime _ _ _ _ _ _
-          (c.subtract-rest.ensures.1 ∙ ap (minus s.q (element s.t4 (l.i - 1))) c.part_of.ensures.1)
+          (c.subtract-rest.ensures.1 ∙ ap (minus s.q (element s.right (l.i - 1))) c.part_of.ensures.1)
           c.multiply.ensures.1
           (ap (λ p. (p * element inverses.result (l.i - 1)) % s.q) (sym (diagonal (l.i - 1) (omega arith)))
-          ∙ inverses.ensures.1 (pivots_ext s.q s.r (pivot s.t3) _ diagonal w) (l.i - 1) (omega arith))),
+          ∙ inverses.ensures.1 (pivots_ext s.q s.r (pivot s.triangle) _ diagonal w) (l.i - 1) (omega arith))),
     )
 
 pub returns : goal.returns

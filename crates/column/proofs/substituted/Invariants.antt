@@ -13,7 +13,7 @@ use borrow.Author.Rules.{rules}
 use Rattle.column.proofs.substituted.Given as goal
 
 abbrev pub invariant-loop-i : goal.invariant-loop-i
-invariant-loop-i l = (l.i ≤ l.r) × (length l.values ≡ most_entries) × (Pivots l.q l.r (pivot l.triangle) → (l : ℕ) → l.i ≤ l → l < l.r → Meets l.q l.r l.triangle l.right l.values l)
+invariant-loop-i s = (s.i ≤ s.r) × (length s.values ≡ most_entries) × (Pivots s.q s.r (pivot s.triangle) → (l : ℕ) → s.i ≤ l → l < s.r → Meets s.q s.r s.triangle s.right s.values l)
 
 abbrev pub decreases-loop-i : goal.decreases-loop-i
 decreases-loop-i l = l.i

@@ -9,17 +9,14 @@ use Rattle.lists.proofs.Stores.{stored_more}
 use Rattle.column.specs.Solving.{most_entries, differences}
 use Rattle.column.proofs.Elimination.{differences_none_at, differences_next}
 use borrow.Author.Rules.{rules}
+use Rattle.column.proofs.triangle.Invariants.{Row}
 use Rattle.column.proofs.triangle.Goals as goal
-
--- what row i of the triangle is
-Row : ℕ → ℕ → List ℕ → ℕ → List ℕ → Type 0
-Row q r points i row = (j : ℕ) → j < r → element row j ≡ differences q (element points) i (element points j)
 
 first_row : (q r : ℕ) (points : List ℕ) → r ≤ most_entries → Row q r points 0 (replicate most_entries 1)
 first_row q r points few j h = get_or-replicate most_entries j 1 0 (omega arith) ∙ differences_none_at q (element points) (element points j)
 
 pub loop-i-init : goal.loop-i-init
-loop-i-init c = (search rules, search rules, first_row c.args.q c.args.r c.args.t3 c.requires.1, λ k h. absurd (omega arith))
+loop-i-init c = (search rules, search rules, first_row c.args.q c.args.r c.args.points c.requires.1, λ k h. absurd (omega arith))
 
 pub loop-i-preserved : goal.loop-i-preserved
 loop-i-preserved c =
@@ -27,8 +24,8 @@ loop-i-preserved c =
     let s = c.args in (
       search rules,
       simp length-set l.invariant.1,
-      λ j h. c.next_row-next.ensures.1 j h ∙ differences_next s.q (element s.t3) l.i (element s.t3 j) _ _ (l.invariant.2 j h) refl,
-      stored_more (Row s.q s.r s.t3) l.out l.i _ [] (omega arith) l.invariant.3 l.invariant.2,
+      λ j h. c.next_row-next.ensures.1 j h ∙ differences_next s.q (element s.points) l.i (element s.points j) _ _ (l.invariant.2 j h) refl,
+      stored_more (Row s.q s.r s.points) l.out l.i _ [] (omega arith) l.invariant.3 l.invariant.2,
     )
 
 pub returns : goal.returns

@@ -11,6 +11,10 @@ use Rattle.column.proofs.Elimination.{differences_none_at, differences_next}
 use borrow.Author.Rules.{rules}
 use Rattle.column.proofs.triangle.Given as goal
 
+-- what row i of the triangle is
+abbrev pub Row : ℕ → ℕ → List ℕ → ℕ → List ℕ → Type 0
+Row q r points i row = (j : ℕ) → j < r → element row j ≡ differences q (element points) i (element points j)
+
 abbrev pub invariant-loop-i : goal.invariant-loop-i
 invariant-loop-i l = (l.i ≤ l.r) × (length l.out ≡ most_entries) × Row l.q l.r l.points l.i l.row × ((k : ℕ) → k < l.i → Row l.q l.r l.points k (get_or l.out k []))
 

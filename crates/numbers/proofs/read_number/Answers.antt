@@ -26,7 +26,7 @@ overflow_mul-high c =
     omega (arith, mul-le-mul a b)
 
 high_small : (c : Then-high-lt-GROUP_VALUES) → c.wide-b.result / group_values * c.wide.result < group_values
-high_small c = ltb-true _ group_values c.if-high-lt-GROUP_VALUES.true
+high_small c = c.if-high-lt-GROUP_VALUES.true
 
 pub returns-then-high-lt-GROUP_VALUES : goal.returns-then-high-lt-GROUP_VALUES
 returns-then-high-lt-GROUP_VALUES c =

@@ -1,0 +1,47 @@
+-- `card::judge_packing` meets its contract: what is judged of the header, then the card's buffer, then the symbols.
+use mathlib.Core.Path.{◌≡◌, sym, ap, ◌∙◌}
+use mathlib.Core.Bool.{false}
+use native.Mathlib.Omega.{arith}
+use borrow.Author.Rules.{rules}
+use borrow.Author.Tests.{eq-eqb, ne_eqb}
+use lib.ListN.{length}
+use Rattle.shape.specs.Refusals.{answer_number, wrong_length}
+use Rattle.card.specs.Cards.{header_refusal, card_room}
+use Rattle.card.proofs.Judging.{header_accepted, pack_turns, pack_sizes, pack_symbols, pack_good}
+use Rattle.card.proofs.judge_packing.Goals as goal
+use Rattle.card.proofs.judge_packing.Goals.{After-s-1, Else-room-size}
+
+-- where the header is judged
+good : (c : After-s-1) →
+    let a = c.args in
+    header_refusal 0 a.header (length a.symbols.now) 0 ≡ 0
+good c = sym c.judge_header.ensures ∙ ap answer_number c.enum_told-1.given.1
+
+pub returns-in-Refused : goal.returns-in-Refused
+returns-in-Refused c = pack_turns _ _ _ _ c.cause-1.given.0.0 (ap answer_number (sym c.cause-1.given.1) ∙ c.judge_header.ensures)
+
+pub size-requires : goal.size-requires
+size-requires c = (header_accepted _ _ _ 0 (good c)).0.shape_good
+
+pub overflow_mul-size : goal.overflow_mul-size
+overflow_mul-size c = omega (arith, (header_accepted _ _ _ 0 (good (goal.at.overflow_mul-size c).After-s-1)).0.shaped.size_high, c.size.ensures)
+
+pub overflow_add-size : goal.overflow_add-size
+overflow_add-size c = omega (arith, (header_accepted _ _ _ 0 (good (goal.at.overflow_add-size c).After-s-1)).0.shaped.size_high, c.size.ensures)
+
+pub returns-then-room-size : goal.returns-then-room-size
+unfolding wrong_length card_room
+returns-then-room-size c = sym (pack_sizes _ _ _ _ (good (goal.at.returns-then-room-size c).After-s-1) (rw (ne_eqb _ _ (rw c.size.ensures at c.if-room-size.true))))
+
+-- where the card's buffer is judged
+roomy : (c : Else-room-size) →
+    let a = c.args in
+    wrong_length a.room (card_room a.header.shape) ≡ false
+unfolding wrong_length card_room
+roomy c = rw (eq-eqb _ _ (rw c.size.ensures at c.if-room-size.false))
+
+pub returns-then-symbol_bad : goal.returns-then-symbol_bad
+returns-then-symbol_bad c = sym (pack_symbols _ _ _ _ (good (goal.at.returns-then-symbol_bad c).After-s-1) (roomy (goal.at.returns-then-symbol_bad c).Else-room-size) (sym c.symbol_bad.ensures ∙ c.if-symbol_bad.true))
+
+pub returns : goal.returns
+returns c = sym (pack_good _ _ _ _ (good (goal.at.returns c).After-s-1) (roomy (goal.at.returns c).Else-room-size) (sym c.symbol_bad.ensures ∙ c.if-symbol_bad.false))

@@ -1,0 +1,34 @@
+-- `card::pack` meets its contract: it turns back with what is judged, or writes the header's numbers and then the symbols.
+use mathlib.Core.Path.{◌≡◌, sym, ap, ◌∙◌}
+use borrow.Author.Rules.{rules}
+use lib.ListN.{length}
+use Rattle.shape.specs.Shape.{symbol_values}
+use Rattle.shape.specs.Refusals.{answer_number}
+use Rattle.card.specs.Cards.{pack_refusal}
+use Rattle.card.proofs.Packing.{packs_refused, header_fits, symbols_fit, packs_done}
+use Rattle.card.proofs.pack.Goals as goal
+use Rattle.card.proofs.pack.Goals.{In_default}
+
+-- where nothing is refused
+taken : (c : In_default) →
+    let a = c.args in
+    pack_refusal symbol_values a.header a.symbols.now (length a.card.now) ≡ 0
+taken c = sym c.judge_packing.ensures ∙ ap answer_number c.enum_told-1.given.1
+
+pub returns-in-Refused : goal.returns-in-Refused
+returns-in-Refused c =
+    packs_refused _ _ _ c.cause-1.given.0.0 (ap answer_number (sym c.cause-1.given.1) ∙ c.judge_packing.ensures)
+
+pub write_header-at-requires : goal.write_header-at-requires
+write_header-at-requires c = header_fits _ _ c.args.card.now (taken (goal.at.write_header-at-requires c).In_default)
+
+pub write_symbols-requires : goal.write_symbols-requires
+write_symbols-requires c =
+    let w = c.write_header-at.ensures in
+    symbols_fit _ _ _ (taken (goal.at.write_symbols-requires c).In_default) _ _ w.0 w.1
+
+pub returns : goal.returns
+returns c =
+    let w = c.write_header-at.ensures in
+    let v = c.write_symbols.ensures in
+    packs_done _ _ _ (taken (goal.at.returns c).In_default) _ _ w.0 w.1 _ _ v.0 v.1

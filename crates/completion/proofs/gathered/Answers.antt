@@ -1,0 +1,46 @@
+-- `completion::gathered` meets its contract. Assumes nothing.
+use mathlib.Core.Path.{◌≡◌, refl}
+use Prim.Native.Nat.{ℕ, ◌-◌, ◌≤◌, ◌<◌}
+use native.Mathlib.Omega.{arith}
+use lib.ListN.{length, get_or, length-set}
+use Rattle.lists.specs.Lists.{element}
+use Rattle.lists.proofs.Stores.{stored_more}
+use Rattle.column.specs.Solving.{most_entries}
+use Rattle.lists.proofs.Members.{rising_below}
+use Rattle.lists.proofs.Others.{rising_fits}
+use borrow.Author.Rules.{rules}
+use Rattle.completion.proofs.gathered.Goals as goal
+use Rattle.completion.proofs.gathered.Goals.{In-loop-j}
+
+pub loop-j-init : goal.loop-j-init
+loop-j-init c = (search rules, search rules, search rules, λ k h. absurd (omega arith))
+
+target : (c : In-loop-j) →
+    get_or c.args.list.now c.loop-j.j 0 < length c.args.points.now
+target c = rising_below _ _ c.requires.1 c.loop-j.j (omega arith)
+
+room : (c : In-loop-j) → length c.args.list.now ≤ length c.args.points.now
+room c = rising_fits _ _ c.requires.1
+
+pub offset_bounds-points-list : goal.offset_bounds-points-list
+offset_bounds-points-list c = omega (arith, target (goal.at.offset_bounds-points-list c).In-loop-j)
+
+pub bounds-points-list : goal.bounds-points-list
+bounds-points-list c = target (goal.at.bounds-points-list c).In-loop-j
+
+pub bounds-out-j : goal.bounds-out-j
+bounds-out-j c = omega (arith, room (goal.at.bounds-out-j c).In-loop-j)
+
+pub loop-j-preserved : goal.loop-j-preserved
+loop-j-preserved c =
+    let i = (goal.at.loop-j-preserved c).In-loop-j in
+    let l = i.loop-j in
+    let s = i.args in (
+      search rules,
+      search rules,
+      simp length-set l.invariant.2,
+      stored_more (λ k x. x ≡ element s.points.now (element s.list.now k)) l.out l.j _ 0 (omega (arith, room i)) l.invariant.3 refl,
+    )
+
+pub returns : goal.returns
+returns c = (c.loop-j.invariant.2, λ j h. c.loop-j.invariant.3 j (omega arith))

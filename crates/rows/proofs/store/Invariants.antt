@@ -1,0 +1,16 @@
+-- `rows::store` meets its contract. Assumes nothing.
+use mathlib.Core.Path.{◌≡◌, refl}
+use Prim.Native.Nat.{◌-◌, ◌≤◌}
+use native.Mathlib.Omega.{arith}
+use native.Mathlib.Nat.{mod-lt}
+use lib.ListN.{get_or}
+use Rattle.rows.specs.Rows.{Stored, remainder}
+use Rattle.rows.proofs.Rows.{stored_none, stored_more}
+use borrow.Author.Rules.{rules}
+use Rattle.rows.proofs.store.Given as goal
+
+abbrev pub invariant-loop-i : goal.invariant-loop-i
+invariant-loop-i l = (l.i ≤ l.run) × Stored l.at l.i (remainder l.q l.sums) l.initial.out l.out
+
+abbrev pub decreases-loop-i : goal.decreases-loop-i
+decreases-loop-i l = l.run - l.i

@@ -1,0 +1,17 @@
+-- `tables::marks` meets its contract. Assumes nothing.
+use mathlib.Core.Path.{◌≡◌}
+use mathlib.Core.Bool.{false}
+use Prim.Native.Nat.{ℕ, ◌-◌, ◌≤◌, ◌<◌}
+use native.Mathlib.Omega.{arith}
+use lib.ListN.{length, get_or, length-set}
+use Rattle.lists.specs.Lists.{member}
+use Rattle.lists.proofs.Stores.{stored_more}
+use Rattle.tables.specs.Tables.{flags}
+use borrow.Author.Rules.{rules}
+use Rattle.tables.proofs.marks.Given as goal
+
+abbrev pub invariant-loop-i : goal.invariant-loop-i
+invariant-loop-i l = (l.i ≤ l.n) × (length l.out ≡ flags) × ((k : ℕ) → k < l.i → get_or l.out k false ≡ member k l.list)
+
+abbrev pub decreases-loop-i : goal.decreases-loop-i
+decreases-loop-i l = l.n - l.i
