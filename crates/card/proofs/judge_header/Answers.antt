@@ -4,7 +4,7 @@ use mathlib.Core.Bool.{false, not}
 use Prim.Native.Nat.{◌*◌, ◌≤◌, ◌<◌}
 use native.Mathlib.Omega.{arith}
 use borrow.Author.Rules.{rules}
-use borrow.Author.Tests.{leb-true, leb-false, ltb-true, ltb-false}
+use borrow.Author.Tests.{eq-eqb, ne_eqb, leb-true, leb-false, ltb-true, ltb-false}
 use Rattle.shape.specs.Shape.{size}
 use Rattle.shape.specs.Refusals.{shape_bad, wrong_length}
 use Rattle.shape.proofs.Accepted.{shape_accepted}
@@ -35,32 +35,32 @@ low c = c.if-node_bad.false
 short : (c : Else-length_bad) →
     let h = c.args.header in
     h.len ≤ h.shape.k * size h.shape
-short c = ltb-false _ _ (rw c.size-size.ensures at c.if-length_bad.false)
+short c = rw c.size-size.ensures at c.if-length_bad.false
 
 heard : (c : Else-hearing_bad) →
     let a = c.args in
     hearing_bad a.least a.header.hearing ≡ false
 unfolding hearing_bad
-heard c = ap not (sym c.within-hearing_bad.ensures) ∙ c.if-hearing_bad.false
+heard c = ap not (sym c.within-hearing_bad.ensures ∙ c.if-hearing_bad.false)
 
 pub returns-then-node_bad : goal.returns-then-node_bad
 returns-then-node_bad c = sym (head_node _ _ _ _ (good (goal.at.returns-then-node_bad c).Else-shape_bad) c.if-node_bad.true)
 
 pub returns-then-length_bad : goal.returns-then-length_bad
 returns-then-length_bad c =
-    sym (head_length _ _ _ _ (good (goal.at.returns-then-length_bad c).Else-shape_bad) (low (goal.at.returns-then-length_bad c).Else-node_bad) (ltb-true _ _ (rw c.size-size.ensures at c.if-length_bad.true)))
+    sym (head_length _ _ _ _ (good (goal.at.returns-then-length_bad c).Else-shape_bad) (low (goal.at.returns-then-length_bad c).Else-node_bad) (rw c.size-size.ensures at c.if-length_bad.true))
 
 pub returns-then-hearing_bad : goal.returns-then-hearing_bad
 unfolding hearing_bad
 returns-then-hearing_bad c =
-    sym (head_hearing _ _ _ _ (good (goal.at.returns-then-hearing_bad c).Else-shape_bad) (low (goal.at.returns-then-hearing_bad c).Else-node_bad) (short (goal.at.returns-then-hearing_bad c).Else-length_bad) (ap not (sym c.within-hearing_bad.ensures) ∙ c.if-hearing_bad.true))
+    sym (head_hearing _ _ _ _ (good (goal.at.returns-then-hearing_bad c).Else-shape_bad) (low (goal.at.returns-then-hearing_bad c).Else-node_bad) (short (goal.at.returns-then-hearing_bad c).Else-length_bad) (ap not (sym c.within-hearing_bad.ensures ∙ c.if-hearing_bad.true)))
 
 pub returns-then-count_bad : goal.returns-then-count_bad
 unfolding wrong_length
 returns-then-count_bad c =
-    sym (head_count _ _ _ _ (good (goal.at.returns-then-count_bad c).Else-shape_bad) (low (goal.at.returns-then-count_bad c).Else-node_bad) (short (goal.at.returns-then-count_bad c).Else-length_bad) (heard (goal.at.returns-then-count_bad c).Else-hearing_bad) (rw c.size-size.ensures at c.if-count_bad.true))
+    sym (head_count _ _ _ _ (good (goal.at.returns-then-count_bad c).Else-shape_bad) (low (goal.at.returns-then-count_bad c).Else-node_bad) (short (goal.at.returns-then-count_bad c).Else-length_bad) (heard (goal.at.returns-then-count_bad c).Else-hearing_bad) (ap not (ne_eqb _ _ (rw c.size-size.ensures at c.if-count_bad.true))))
 
 pub returns : goal.returns
 unfolding wrong_length
 returns c =
-    sym (head_good _ _ _ _ (good (goal.at.returns c).Else-shape_bad) (low (goal.at.returns c).Else-node_bad) (short (goal.at.returns c).Else-length_bad) (heard (goal.at.returns c).Else-hearing_bad) (rw c.size-size.ensures at c.if-count_bad.false))
+    sym (head_good _ _ _ _ (good (goal.at.returns c).Else-shape_bad) (low (goal.at.returns c).Else-node_bad) (short (goal.at.returns c).Else-length_bad) (heard (goal.at.returns c).Else-hearing_bad) (ap not (eq-eqb _ _ (rw c.size-size.ensures at c.if-count_bad.false))))

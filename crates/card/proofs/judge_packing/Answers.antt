@@ -15,13 +15,13 @@ use Rattle.card.proofs.judge_packing.Goals.{After-s-1, Else-room-size}
 good : (c : After-s-1) →
     let a = c.args in
     header_refusal 0 a.header (length a.symbols.now) 0 ≡ 0
-good c = sym c.judge_header.ensures ∙ ap answer_number c.enum_told-1.given.1
+good c = sym c.judge_header.ensures ∙ ap answer_number c.in_default.is
 
 pub returns-in-Refused : goal.returns-in-Refused
-returns-in-Refused c = pack_turns _ _ _ _ c.cause-1.given.0.0 (ap answer_number (sym c.cause-1.given.1) ∙ c.judge_header.ensures)
+returns-in-Refused c = pack_turns _ _ _ _ c.in-Refused.cause (ap answer_number (sym c.in-Refused.is) ∙ c.judge_header.ensures)
 
 pub size-requires : goal.size-requires
-size-requires c = (header_accepted _ _ _ 0 (good c)).0.shape_good
+size-requires c = (header_accepted _ _ _ 0 (good c)).0.shape_good_lem
 
 pub overflow_mul-size : goal.overflow_mul-size
 overflow_mul-size c = omega (arith, (header_accepted _ _ _ 0 (good (goal.at.overflow_mul-size c).After-s-1)).0.shaped.size_high, c.size.ensures)

@@ -13,11 +13,11 @@ use Rattle.card.proofs.pack.Goals.{In_default}
 taken : (c : In_default) →
     let a = c.args in
     pack_refusal symbol_values a.header a.symbols.now (length a.card.now) ≡ 0
-taken c = sym c.judge_packing.ensures ∙ ap answer_number c.enum_told-1.given.1
+taken c = sym c.judge_packing.ensures ∙ ap answer_number c.in_default.is
 
 pub returns-in-Refused : goal.returns-in-Refused
 returns-in-Refused c =
-    packs_refused _ _ _ c.cause-1.given.0.0 (ap answer_number (sym c.cause-1.given.1) ∙ c.judge_packing.ensures)
+    packs_refused _ _ _ c.in-Refused.cause (ap answer_number (sym c.in-Refused.is) ∙ c.judge_packing.ensures)
 
 pub write_header-at-requires : goal.write_header-at-requires
 write_header-at-requires c = header_fits _ _ c.args.card.now (taken (goal.at.write_header-at-requires c).In_default)

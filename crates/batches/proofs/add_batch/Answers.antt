@@ -1,0 +1,18 @@
+-- `batches::add_batch` meets its contract: what the folded sums leave is the sums. Assumes nothing.
+use mathlib.Core.Path.{ap, ◌∙◌}
+use borrow.Author.Rules.{rules}
+use lib.ListN.{length}
+use Rattle.lists.specs.Lists.{tabulate}
+use Rattle.lists.proofs.Tables.{tabulate_ext}
+use Rattle.code.specs.Code.{narrow}
+use Rattle.batches.specs.Batches.{added_in, remainder}
+use Rattle.batches.proofs.add_batch.Goals as goal
+use Rattle.batches.proofs.add_batch.Goals.{Start}
+
+pub returns : goal.returns
+unfolding remainder
+returns c =
+    let f = c.fold_batch in
+    let a = c.args in
+    c.reduce.ensures ∙ ap (λ z. tabulate z (remainder narrow.modulus f.new.1.1.1.1.0)) (f.auto.1.1.1.1.0 ∙ c.requires.2)
+    ∙ tabulate_ext (length a.members.now) (remainder narrow.modulus f.new.1.1.1.1.0) (added_in narrow a.members.now a.turn a.symbols.now) (λ x h. f.ensures.each x h)

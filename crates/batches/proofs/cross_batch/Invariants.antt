@@ -1,0 +1,21 @@
+-- `batches::cross_batch` meets its contract. Assumes nothing.
+use mathlib.Core.Path.{◌≡◌, refl, sym, ap, ◌∙◌}
+use Prim.Native.Nat.{◌-◌, ◌≤◌, ◌<◌}
+use native.Mathlib.Omega.{arith}
+use lib.Bits.{bit_xor}
+use borrow.Author.Tests.{eqb-true}
+use lib.ListN.{length, get_or}
+use Rattle.lists.specs.Lists.{range}
+use Rattle.lists.proofs.Tests.{both}
+use Rattle.code.specs.Code.{narrow}
+use Rattle.field.specs.Residues.{minus}
+use Rattle.batches.specs.Batches.{turned, left_in, Stored}
+use Rattle.batches.proofs.Batches.{turned_is, stored_none, stored_more, row_room}
+use borrow.Author.Rules.{rules}
+use Rattle.batches.proofs.cross_batch.Given as goal
+
+abbrev pub invariant-loop-x : goal.invariant-loop-x
+invariant-loop-x l = (l.x ≤ l.x-end) × (l.x-end ≡ length l.members) × Stored l.x (turned l.members l.far) (left_in narrow l.members l.near l.sums l.initial.symbols) l.initial.symbols l.symbols
+
+abbrev pub decreases-loop-x : goal.decreases-loop-x
+decreases-loop-x l = l.x-end - l.x

@@ -1,0 +1,17 @@
+-- `batches::fold_rows` meets its contract. Assumes nothing.
+use mathlib.Core.Path.{◌≡◌, refl, ◌∙◌}
+use Prim.Native.Nat.{◌-◌, ◌≤◌}
+use native.Mathlib.Omega.{arith}
+use borrow.Author.Rules.{rules}
+use lib.ListN.{length, length-set}
+use Rattle.lists.specs.Lists.{range}
+use Rattle.code.specs.Code.{narrow}
+use Rattle.batches.specs.Batches.{added_in, Remain}
+use Rattle.batches.proofs.Batches.{remain_none, remain_more, row_near, row_far, row_added}
+use Rattle.batches.proofs.fold_rows.Given as goal
+
+abbrev pub invariant-loop-x : goal.invariant-loop-x
+invariant-loop-x l = (l.x ≤ l.x-end) × (l.x-end ≡ length l.initial.sums) × (length l.sums ≡ length l.initial.sums) × Remain narrow.modulus l.x (added_in narrow (range 0 (length l.initial.sums)) l.turn l.symbols) l.sums
+
+abbrev pub decreases-loop-x : goal.decreases-loop-x
+decreases-loop-x l = l.x-end - l.x

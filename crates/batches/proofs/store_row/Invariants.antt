@@ -1,0 +1,17 @@
+-- `batches::store_row` meets its contract. Assumes nothing.
+use mathlib.Core.Path.{◌≡◌, refl, ap, ◌∙◌}
+use Prim.Native.Nat.{suc, ◌+◌, ◌-◌, ◌≤◌}
+use native.Mathlib.Omega.{arith}
+use borrow.Author.Rules.{rules}
+use lib.Bits.{bit_xor}
+use lib.ListN.{length}
+use Rattle.lists.specs.Lists.{element}
+use Rattle.batches.specs.Batches.{puts}
+use Rattle.batches.proofs.Batches.{puts_none, puts_next, puts_length}
+use Rattle.batches.proofs.store_row.Given as goal
+
+abbrev pub invariant-loop-i : goal.invariant-loop-i
+invariant-loop-i l = (l.i ≤ l.i-end) × (l.i-end ≡ length l.row) × (l.symbols ≡ puts (λ j. bit_xor (l.x + j) l.turn) (element l.row) l.i l.initial.symbols)
+
+abbrev pub decreases-loop-i : goal.decreases-loop-i
+decreases-loop-i l = l.i-end - l.i
