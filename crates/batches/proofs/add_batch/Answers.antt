@@ -14,5 +14,5 @@ unfolding remainder
 returns c =
     let f = c.fold_batch in
     let a = c.args in
-    c.reduce.ensures ∙ ap (λ z. tabulate z (remainder narrow.modulus f.new.1.1.1.1.0)) (f.auto.1.1.1.1.0 ∙ c.requires.2)
-    ∙ tabulate_ext (length a.members.now) (remainder narrow.modulus f.new.1.1.1.1.0) (added_in narrow a.members.now a.turn a.symbols.now) (λ x h. f.ensures.each x h)
+    c.reduce.ensures ∙ ap (λ z. tabulate z (remainder narrow.modulus f.new.sums)) (f.auto.sums ∙ c.requires.2)
+    ∙ tabulate_ext (length a.members.now) (remainder narrow.modulus f.new.sums) (added_in narrow a.members.now a.turn a.symbols.now) (λ x h. f.ensures.each x h)

@@ -45,7 +45,7 @@ loop-x-preserved c =
     let w : length (take c.run_from-run.result l.left) ≡ c.run_from-run.result = simp length-take (omega (arith, r.1, i.2)) in (
       r.2,
       refl,
-      length_front l.left m.new.1.1.1.0 c.run_from-run.result m.auto.1.1.1.0 ∙ i.2,
+      length_front l.left m.new.left c.run_from-run.result m.auto.left ∙ i.2,
       rw (m.ensures, w) (crossed_more _ _ _ _ _ _ c.requires.apart.0 _ _ i.3 _ (omega (arith, r.2, range_length 0 (length c.args.sums.now)))),
     )
 

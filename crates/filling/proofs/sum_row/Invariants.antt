@@ -1,0 +1,15 @@
+-- `filling::sum_row` meets its contract. Assumes nothing.
+use mathlib.Core.Path.{◌≡◌, refl}
+use Prim.Native.Nat.{◌-◌, ◌≤◌}
+use native.Mathlib.Omega.{arith}
+use lib.ListN.{length}
+use Rattle.filling.specs.Filling.{Summed}
+use Rattle.filling.proofs.Summing.{summed_none, sum_fits, summed_more}
+use borrow.Author.Rules.{rules}
+use Rattle.filling.proofs.sum_row.Given as goal
+
+abbrev pub invariant-loop-j : goal.invariant-loop-j
+invariant-loop-j l = (l.j ≤ length l.rows) × (l.j-end ≡ length l.rows) × Summed l.run l.each l.place l.rows l.table l.first l.symbols l.j l.sums
+
+abbrev pub decreases-loop-j : goal.decreases-loop-j
+decreases-loop-j l = length l.rows - l.j

@@ -1,0 +1,15 @@
+-- `picking::pick_row` meets its contract. Assumes nothing.
+use mathlib.Core.Path.{◌≡◌, refl}
+use Prim.Native.Nat.{◌-◌, ◌≤◌}
+use native.Mathlib.Omega.{arith}
+use borrow.Author.Rules.{rules}
+use Rattle.rows.proofs.Rows.{stored_none, stored_more}
+use Rattle.rows.specs.Rows.{Stored}
+use Rattle.picking.specs.Picking.{picked}
+use Rattle.picking.proofs.pick_row.Given as goal
+
+abbrev pub invariant-loop-t : goal.invariant-loop-t
+invariant-loop-t l = (l.t ≤ l.run) × Stored l.at l.t (picked l.looked l.row l.source l.at) l.initial.table l.table
+
+abbrev pub decreases-loop-t : goal.decreases-loop-t
+decreases-loop-t l = l.run - l.t

@@ -1,0 +1,26 @@
+-- `picking::pick_rows` meets its contract. Assumes nothing.
+use mathlib.Core.Path.{◌≡◌, refl, ◌∙◌}
+use mathlib.Core.Bool.{Bool, false}
+use mathlib.Core.List.{List}
+use Prim.Native.Nat.{ℕ, ◌+◌, ◌-◌, ◌*◌, ◌≤◌, ◌<◌}
+use native.Mathlib.Omega.{arith}
+use borrow.Author.Rules.{rules}
+use lib.ListN.{length}
+use Rattle.lists.specs.Lists.{member}
+use Rattle.lists.proofs.Others.{rising_fits}
+use Rattle.shape.specs.Shape.{most_nodes}
+use Rattle.rows.specs.Rows.{most_places}
+use Rattle.tables.specs.Tables.{table_size, NodeRows}
+use Rattle.tables.proofs.Tables.{row_room}
+use Rattle.picking.specs.Picking.{LookedUp, Pickable}
+use Rattle.picking.proofs.Picking.{picks_none, picks_more}
+use Rattle.picking.proofs.pick_rows.Given as goal
+
+abbrev pub invariant-loop-j : goal.invariant-loop-j
+invariant-loop-j l =
+    (l.j ≤ l.k) × (length l.table ≡ length l.initial.table)
+    × ((m a : ℕ) (marked : List Bool) (picks : List ℕ) (last : ℕ) → Pickable l.n m a l.run l.list marked picks last l.source → LookedUp a l.run l.list picks last (length l.list) l.looked → l.i < m
+    → member l.i l.list ≡ false → NodeRows l.n (◌+◌ a) l.run l.list l.i l.j l.initial.table l.table)
+
+abbrev pub decreases-loop-j : goal.decreases-loop-j
+decreases-loop-j l = l.k - l.j
