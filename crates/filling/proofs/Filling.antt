@@ -233,3 +233,9 @@ whole_runs n h = go (below_or_not n 6)
     go (inr l) =
         let e : 2 ^ n ≡ 2 ^ (n - 6) * 64 = ap (λ k. 2 ^ k) (let z : n ≡ n - 6 + 6 = omega arith in z) ∙ pow-add 2 (n - 6) 6 in
         omega (arith, e)
+
+-- a run of places lies within a layer
+pub block_room : (two run n block : ℕ) → two ≡ 2 ^ n → 2 ^ n / run * run ≡ 2 ^ n → block < two / run → block * run + run ≤ 2 ^ n
+block_room two run n block t whole l =
+    let e : two / run * run ≡ 2 ^ n = ap (λ k. k / run * run) t ∙ whole in
+    omega (arith, e, mul-le-mul_right run (let z : block + 1 ≤ two / run = omega arith in z))

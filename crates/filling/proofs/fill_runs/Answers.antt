@@ -12,7 +12,7 @@ use Rattle.rows.specs.Rows.{Low}
 use Rattle.rows.proofs.Rows.{low_replicate}
 use Rattle.tables.specs.Tables.{table_size}
 use Rattle.filling.specs.Filling.{Filled, Below}
-use Rattle.filling.proofs.Filling.{blocks_none, blocks_more, blocks_end, still_fillable}
+use Rattle.filling.proofs.Filling.{block_room, blocks_none, blocks_more, blocks_end, still_fillable}
 use borrow.Author.Rules.{rules}
 use Rattle.filling.proofs.fill_runs.Goals as goal
 use Rattle.filling.proofs.fill_runs.Goals.{In-loop-block, Start}
@@ -32,12 +32,6 @@ nonzero_div-block-end c =
 pub loop-block-init : goal.loop-block-init
 loop-block-init c =
     (search rules, refl, refl, low_replicate _ table_size 0 (omega arith), blocks_none _ c.args.s.layers _ _ c.requires.1.up _ _)
-
--- a run of places lies within a layer
-block_room : (two run n block : ℕ) → two ≡ 2 ^ n → 2 ^ n / run * run ≡ 2 ^ n → block < two / run → block * run + run ≤ 2 ^ n
-block_room two run n block t whole l =
-    let e : two / run * run ≡ 2 ^ n = ap (λ k. k / run * run) t ∙ whole in
-    omega (arith, e, mul-le-mul_right run (let z : block + 1 ≤ two / run = omega arith in z))
 
 pub overflow_mul-block : goal.overflow_mul-block
 overflow_mul-block c =

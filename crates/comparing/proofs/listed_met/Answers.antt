@@ -1,0 +1,22 @@
+-- `comparing::listed_met` meets its contract. Assumes nothing.
+use mathlib.Core.Path.{sym}
+use mathlib.Core.Bool.{true≢false}
+use native.Mathlib.Omega.{arith}
+use borrow.Author.Rules.{rules}
+use Rattle.shape.proofs.Accepted.{shape_accepted}
+use Rattle.comparing.proofs.listed_met.Goals as goal
+use Rattle.comparing.proofs.listed_met.Goals.{After-marks-marked, Start}
+
+pub marks-marked-requires : goal.marks-marked-requires
+marks-marked-requires c = omega (arith, (shape_accepted _ c.requires.0).n_high)
+
+pub pays-requires : goal.pays-requires
+pays-requires c = (shape_accepted _ c.requires.0).n_high
+
+pub met_from_few-requires : goal.met_from_few-requires
+met_from_few-requires c =
+    (c.requires.0, c.requires.1, c.marks-marked.ensures, c.pays.ensures c.if-pays.true)
+
+pub runs_met-requires : goal.runs_met-requires
+runs_met-requires c =
+    (c.requires.0, c.requires.1, c.marks-marked.ensures, λ h. absurd (true≢false (sym h)))

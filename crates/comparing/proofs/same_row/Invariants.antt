@@ -1,0 +1,16 @@
+-- `comparing::same_row` meets its contract. Assumes nothing.
+use mathlib.Core.Path.{◌≡◌}
+use mathlib.Core.Bool.{true}
+use Prim.Native.Nat.{◌+◌, ◌-◌, ◌≤◌}
+use native.Mathlib.Omega.{arith}
+use Rattle.rows.specs.Rows.{Stored, remainder}
+use Rattle.rows.proofs.Rows.{stored_none}
+use Rattle.comparing.proofs.Comparing.{same_more}
+use borrow.Author.Rules.{rules}
+use Rattle.comparing.proofs.same_row.Given as goal
+
+abbrev pub invariant-loop-i : goal.invariant-loop-i
+invariant-loop-i l = (l.i ≤ l.run) × (l.same ≡ true → Stored l.at l.i (remainder l.q l.sums) l.symbols l.symbols)
+
+abbrev pub decreases-loop-i : goal.decreases-loop-i
+decreases-loop-i l = l.run - l.i

@@ -1,0 +1,18 @@
+-- `solving::spread` meets its contract: no two places are one. Assumes nothing.
+use mathlib.Core.Path.{◌≡◌, refl}
+use Prim.Native.Nat.{◌+◌, ◌-◌, ◌≤◌, ◌<◌}
+use native.Mathlib.Omega.{arith}
+use borrow.Author.Rules.{rules}
+use lib.ListN.{length}
+use Rattle.lists.specs.Lists.{element}
+use Rattle.code.specs.Code.{narrow}
+use Rattle.rows.specs.Rows.{remainder}
+use Rattle.solving.specs.Solving.{Spread}
+use Rattle.solving.proofs.Puts.{spread_none, spread_more}
+use Rattle.solving.proofs.spread.Given as goal
+
+abbrev pub invariant-loop-t : goal.invariant-loop-t
+invariant-loop-t l = (l.t ≤ l.run) × Spread l.t l.base l.at (remainder narrow.modulus l.sums) l.initial.out l.out
+
+abbrev pub decreases-loop-t : goal.decreases-loop-t
+decreases-loop-t l = l.run - l.t

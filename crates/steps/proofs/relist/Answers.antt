@@ -1,0 +1,6 @@
+-- `steps::relist` meets its contract: the table has the class already, or is filled anew. Assumes nothing.
+use borrow.Author.Rules.{rules}
+use Rattle.steps.proofs.relist.Goals as goal
+
+pub returns-then-held-c : goal.returns-then-held-c
+returns-then-held-c c = rw (← c.if-held-c.true) c.requires.2

@@ -1,0 +1,22 @@
+-- `unpacking::read_symbols` meets its contract: what was read is in the buffer up to symbol i, and the rest can be read at the place.
+use mathlib.Core.Path.{◌≡◌, refl, sym, ap, ◌∙◌}
+use mathlib.Core.List.{◌++◌, append-nil}
+use Prim.Native.Nat.{◌-◌, ◌≤◌}
+use native.Mathlib.Nat.{sub-zero}
+use native.Mathlib.Omega.{arith}
+use borrow.Author.Rules.{rules}
+use lib.ListN.{length, take, drop, length-set}
+use lib.Seq.{take_all}
+use Rattle.lists.proofs.Buffers.{take_more}
+use Rattle.shape.specs.Shape.{symbol_values}
+use Rattle.card.specs.Cards.{symbols_read, read_symbols}
+use Rattle.card.proofs.Reading.{Good, symbols_good, scan_kept, kept_never, kept_end}
+use Rattle.unpacking.proofs.read_symbols.Given as goal
+
+abbrev pub invariant-loop-i : goal.invariant-loop-i
+invariant-loop-i l =
+    (l.i ≤ length l.initial.symbols) × (length l.symbols ≡ length l.initial.symbols) × Good (read_symbols symbol_values (length l.initial.symbols - l.i) (drop l.at l.card))
+    × (symbols_read (read_symbols symbol_values (length l.initial.symbols) (drop l.start l.card)) ≡ take l.i l.symbols ++ symbols_read (read_symbols symbol_values (length l.initial.symbols - l.i) (drop l.at l.card)))
+
+abbrev pub decreases-loop-i : goal.decreases-loop-i
+decreases-loop-i l = length l.initial.symbols - l.i
