@@ -25,9 +25,9 @@ store_bytes-requires c =
     (z, rw (get_or-take _ c.args.symbols.now t 0 l) (fits_byte _ _ _ z (c.row_fits.ensures.each c.if-not-row_fits.false t (omega (arith, c.requires)))))
 
 pub shape_of-transcript : goal.shape_of-transcript
-shape_of-transcript c = c.store_Bytes.ensures.long
+shape_of-transcript c = c.store_bytes.ensures.long
 
 pub returns : goal.returns
 returns c =
-    let put = rw (length-take-le _ _ c.requires) at c.store_Bytes.ensures in
+    let put = rw (length-take-le _ _ c.requires) at c.store_bytes.ensures in
     λ z list input last. data_copied z list _ _ input last _ (c.row_fits.ensures.each c.if-not-row_fits.false) put

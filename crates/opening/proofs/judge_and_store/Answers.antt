@@ -14,7 +14,7 @@ pub returns-then-not-walk : goal.returns-then-not-walk
 returns-then-not-walk c = turned_back _ _ _ _ c.requires.0 _ _ c.if-not-walk.true c.walk.ensures
 
 pub shape_of-transcript-then-not-walk : goal.shape_of-transcript-then-not-walk
-shape_of-transcript-then-not-walk c = (returns c).long
+shape_of-transcript-then-not-walk c = (returns-then-not-walk c).long
 
 pub walk-requires-2 : goal.walk-requires-2
 walk-requires-2 c =
@@ -25,4 +25,4 @@ pub returns : goal.returns
 returns c = judged_stored _ _ _ _ c.requires.0 _ _ _ _ c.if-not-walk.false c.walk.ensures c.walk-2.ensures
 
 pub shape_of-transcript : goal.shape_of-transcript
-shape_of-transcript c = (returns_2 c).long
+shape_of-transcript c = (returns c).long

@@ -28,11 +28,11 @@ store_bytes-requires c =
     (omega (arith, c.requires.1), rw (get_or-take _ c.args.row.now t 0 l) (fits_byte _ _ _ (omega (arith, c.requires.0)) (each t (omega (arith, v.few)))))
 
 pub shape_of-transcript : goal.shape_of-transcript
-shape_of-transcript c = c.store_Bytes.ensures.long
+shape_of-transcript c = c.store_bytes.ensures.long
 
 pub returns : goal.returns
 returns c =
     let a = c.args in
     let v = c.before_end-count.ensures in
-    let put = rw (length-take-le _ _ v.few) at c.store_Bytes.ensures in
+    let put = rw (length-take-le _ _ v.few) at c.store_bytes.ensures in
     λ D same. row_walked D a.len a.room a.at a.row.now a.transcript.now same _ _ (c.row_fits.ensures.each c.if-not-row_fits.false) v put

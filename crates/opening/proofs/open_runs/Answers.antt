@@ -15,8 +15,9 @@ use Rattle.tables.specs.Tables.{table_size}
 use Rattle.opening.specs.Steps.{opened, Walked, OneOf, AtBlock, Missing}
 use Rattle.opening.proofs.Places.{all_walked, walked_all}
 use Rattle.opening.proofs.Walking.{walked_none, walked_on, walked_ends, walked_as}
+use Rattle.filling.proofs.Filling.{block_room}
 use Rattle.opening.proofs.open_runs.Goals as goal
-use Rattle.opening.proofs.open_runs.Goals.{In-loop-block, Start}
+use Rattle.opening.proofs.open_runs.Goals.{Start}
 
 pub two_to-two-requires : goal.two_to-two-requires
 two_to-two-requires c = (shape_accepted _ c.requires.0.shape).n_high
@@ -30,15 +31,8 @@ nonzero_div-block-end c = c.run_of-run.ensures.0
 pub loop-block-init : goal.loop-block-init
 loop-block-init c = (search rules, refl, refl, low_replicate _ table_size 0 (omega arith), walked_none _ _ _ _ _)
 
--- a run of places lies within a layer
-block_room : (c : In-loop-block) → c.loop-block.block * c.run_of-run.result + c.run_of-run.result ≤ 2 ^ c.args.s.n
-block_room c =
-    let run = c.run_of-run in
-    let h = rw c.two_to-two.ensures at c.loop-block-test.true in
-    omega (arith, run.ensures.2, mul-le-mul_right run.result (let z : c.loop-block.block + 1 ≤ 2 ^ c.args.s.n / run.result = omega (arith, h) in z))
-
 pub overflow_mul-block : goal.overflow_mul-block
-overflow_mul-block c = omega (arith, block_room c, (shape_accepted _ c.requires.0.shape).places_high)
+overflow_mul-block c = omega (arith, block_room c.two_to-two.result c.run_of-run.result _ c.loop-block.block c.two_to-two.ensures c.run_of-run.ensures.2 c.loop-block-test.true, (shape_accepted _ c.requires.0.shape).places_high)
 
 pub slice_bounds-open_layers-end : goal.slice_bounds-open_layers-end
 slice_bounds-open_layers-end c = sym c.loop-block.invariant.2
@@ -47,7 +41,7 @@ pub open_layers-requires : goal.open_layers-requires
 open_layers-requires c =
     let l = c.loop-block in
     let p = c.requires in
-    (p.0, p.1, p.2, c.run_of-run.ensures.1, block_room (goal.at.open_layers-requires c).In-loop-block, l.invariant.2, l.invariant.3, p.3, omega (arith, p.4, l.invariant.4.long))
+    (p.0, p.1, p.2, c.run_of-run.ensures.1, block_room c.two_to-two.result c.run_of-run.result _ c.loop-block.block c.two_to-two.ensures c.run_of-run.ensures.2 c.loop-block-test.true, l.invariant.2, l.invariant.3, p.3, omega (arith, p.4, l.invariant.4.long))
 
 pub shape_of-transcript-then-not-open_layers : goal.shape_of-transcript-then-not-open_layers
 shape_of-transcript-then-not-open_layers c = c.open_layers.ensures.2.long ∙ c.loop-block.invariant.4.long
