@@ -12,28 +12,28 @@ use Rattle.unpacking.proofs.read_plain.Goals as goal
 use Rattle.unpacking.proofs.read_plain.Goals.{In-Read, In-Read-read_number, In-Read-read_number-2, In-Read-read_number-3, Start}
 
 -- of the five numbers some are left
-Plain : List ℕ → ℕ → ℕ → ℕ → Type 0
+abbrev Plain : List ℕ → ℕ → ℕ → ℕ → Type 0
 Plain bytes start left at = Begun (read_numbers plain_count (drop start bytes)) bytes left at
 
-five : (c : Start) → Plain c.args.card.now c.args.start 5 c.args.start
+abbrev five : (c : Start) → Plain c.args.card.now c.args.start 5 c.args.start
 five c = begun _ plain_count _ c.requires
 
-one : (c : In-Read) →
+abbrev one : (c : In-Read) →
     let a = c.args in
     Plain a.card.now a.start 4 c.in-Read.at
 one c = begun_next (five (goal.at.In-Read c).Start) (sym c.read_number.ensures ∙ c.in-Read.is)
 
-two : (c : In-Read-read_number) →
+abbrev two : (c : In-Read-read_number) →
     let a = c.args in
     Plain a.card.now a.start 3 c.in-Read-read_number.at
 two c = begun_next (one (goal.at.In-Read-read_number c).In-Read) (sym c.read_number-2.ensures ∙ c.in-Read-read_number.is)
 
-three : (c : In-Read-read_number-2) →
+abbrev three : (c : In-Read-read_number-2) →
     let a = c.args in
     Plain a.card.now a.start 2 c.in-Read-read_number-2.at
 three c = begun_next (two (goal.at.In-Read-read_number-2 c).In-Read-read_number) (sym c.read_number-3.ensures ∙ c.in-Read-read_number-2.is)
 
-four : (c : In-Read-read_number-3) →
+abbrev four : (c : In-Read-read_number-3) →
     let a = c.args in
     Plain a.card.now a.start 1 c.in-Read-read_number-3.at
 four c = begun_next (three (goal.at.In-Read-read_number-3 c).In-Read-read_number-2) (sym c.read_number-4.ensures ∙ c.in-Read-read_number-3.is)

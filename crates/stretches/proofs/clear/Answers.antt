@@ -1,0 +1,27 @@
+-- `stretches::clear` meets its contract. Assumes nothing.
+use lib.ListN.{length}
+use mathlib.Core.Path.{◌≡◌, refl}
+use Prim.Native.Nat.{◌-◌, ◌≤◌}
+use native.Mathlib.Omega.{arith}
+use Rattle.rows.specs.Rows.{Stored}
+use Rattle.rows.proofs.Rows.{stored_none, stored_more}
+use borrow.Author.Rules.{rules}
+use Rattle.stretches.proofs.clear.Goals as goal
+use Rattle.stretches.proofs.clear.Goals.{Start}
+
+pub loop-i-init : goal.loop-i-init
+loop-i-init c = (search rules, stored_none _ _ _)
+
+pub loop-i-preserved : goal.loop-i-preserved
+loop-i-preserved c =
+    let l = c.loop-i in
+    (search rules, stored_more c.args.at l.i _ _ l.columns _ l.invariant.1 (omega arith) refl)
+
+pub shape_of-columns : goal.shape_of-columns
+shape_of-columns c = c.loop-i.invariant.1.long
+
+pub returns : goal.returns
+returns c =
+    let l = c.loop-i in
+    let e : l.i ≡ length c.args.columns.now - c.args.at = omega arith in
+    rw (← e) l.invariant.1

@@ -1,0 +1,14 @@
+-- `stretches::past_end` meets its contract. Assumes nothing.
+use Rattle.stretches.specs.Stretches.{stretch_start, stretch_length, stretch_count}
+use native.Mathlib.Omega.{arith}
+use Prim.Native.Nat.{ℕ, ◌-◌, ◌≤◌, ◌<◌}
+use Rattle.lists.proofs.Tests.{each_more}
+use Rattle.stretches.proofs.Judging.{EndWithin, none_past, one_past}
+use borrow.Author.Rules.{rules}
+use Rattle.stretches.proofs.past_end.Given as goal
+
+abbrev pub invariant-loop-m : goal.invariant-loop-m
+invariant-loop-m l = (l.m ≤ l.count) × ((x : ℕ) → x < l.m → EndWithin l.stretches l.len x)
+
+abbrev pub decreases-loop-m : goal.decreases-loop-m
+decreases-loop-m l = l.count - l.m
