@@ -1,27 +1,37 @@
 // The plan program: standard input to standard output.
 #![tactic(auto)]
 
-ghost use Rattle.std.specs.Prelude.{◌≡◌, length};
-ghost use Rattle.io.specs.Counts.{IsPrefixLen};
+ghost use Rattle.std.specs.Prelude.{◌≡◌, ◌≤◌, length, take};
 ghost use Rattle.transfers.specs.Plan.{most_input};
 
-use libc::{STDIN_FILENO, STDOUT_FILENO};
 use plan::Planned;
+use std::io::{self, Read};
 
-// Reads as many bytes of standard input as can change the text, and no more: `printed_by_front` says that more cannot.
-fn read(input: &mut [u8]) -> usize
+// Reads as many bytes of standard input as can change the text, and no more: `printed_by_front` says that more cannot. A read that fails ends the input.
+fn read(rt: &impl Input, input: &mut [u8]) -> usize
     requires { length input.old ≡ most_input }
-    ensures { IsPrefixLen result input.new }
+    ensures { (result ≤ length input.new) × (result ≡ length (take result input.new)) }
 {
-    io::read_full(STDIN_FILENO, input)
+    let mut stdin = rt.reader();
+    let mut done = 0;
+    while done < input.len() {
+        let Ok(n) = stdin.read(&mut input[done..]) else {
+            break;
+        };
+        if n == 0 {
+            break;
+        }
+        done += n;
+    }
+    done
 }
 
-fn main() {
+fn main(rt: HostRuntime) -> io::Result<()> {
     let mut input = [0u8; plan::MOST_INPUT];
-    let n = read(&mut input);
+    let n = read(&rt, &mut input);
     let mut text = [0u8; plan::PLAN_TEXT];
     let Planned::Text(long) = plan::plan(&input[..n], &mut text) else {
-        return;
+        return Ok(());
     };
-    io::write_all(STDOUT_FILENO, &text[..long]);
+    rt.write_all(&text[..long])
 }
