@@ -11,9 +11,10 @@ test:
 bench: library
 	cd rust && cargo bench --offline
 
-# Proves the library's crates, where that is not done yet, and writes target/staticlib/libhmsr.a.
+# Proves the library's crates, where that is not done yet, and puts target/staticlib/libhmsr.a in place.
 library:
-	rt staticlib hmsr
+	cd crates/hmsr && rt lib
+	install -D -m 644 crates/hmsr/out/libhmsr.a target/staticlib/libhmsr.a
 
 # Where things are installed, a relative PREFIX being taken from here; DESTDIR comes before it where a package is made.
 PREFIX = /usr/local

@@ -1,122 +1,82 @@
 #!/usr/bin/env python3
-"""The wrong programs, crates/*/must-fail/*.edit, tried together where they do not touch each other.
+"""Whether each wrong program, crates/*/must-fail/*.edit, is refused where it is wrong.
 
-    wrong_programs.py join TREE     copies the crates to TREE, the wrong programs of each crate joined to rounds, each an edit of its own
-    wrong_programs.py judge TREE    prints a line for each wrong program, once `rt must-fail` has run in TREE
+    wrong_programs.py LOG    reads what `rt ci` or `rt must-fail` said; prints a line for each wrong program that is refused elsewhere
 
-Most of them change the body of one function, of which the proofs of other functions see the contract alone. So those of different functions
-are one round, tried by one check of the crate. Each function changed must then be refused for itself: its proof has an error, or none is
-found where it has no proof file. That it rests on something refused, a function that it calls, is no such error; and a function whose body
-is as it was may have no other. If all that is wrong with a function is in the last lines of its proof, where the proofs of what it calls
-are put together, it is not seen beside a wrong one that it calls: such an edit says `alone:` and why, and is a round by itself. So is
-what changes more than a body, a definition say: there the crate must be refused.
+rt tries each wrong program by itself, and says the place of the first error. Most of them change the body of one function, of which the proofs
+of other functions see the contract alone. So that place must lie in the proof of this function, proofs/NAME, or proofs/+NAME where it calls
+itself; or, for what rt found no proof of by itself, in its text. What changes more than a body, a definition say, must be refused in its crate.
+A name that a proof cites and that the wrong program took away is no refusal, here or there. Of what is not refused at all rt itself speaks.
 """
 import re
-import shutil
 import sys
 from pathlib import Path
 
+REFUSED = re.compile(r'^rt: must-fail (\w+)/(\S+)\.edit: refused, as it must be(?: \((only [^)]*)\))?(?:: (.*))?$', re.M)
+PROOF = re.compile(r'(?:note: )?(?:\./)?proofs/\+?(\w+)/\w+\.antt:\d+:\d+: ')
+SOURCE = re.compile(r'(?:note: )?(?:\./)?src/\w+\.rt:(\d+):\d+: ')
 FUNCTION = re.compile(r'^(?:pub )?(?:extern "C" )?fn (\w+)', re.M)
 BODY = re.compile(r'^(?:.*fn .*)?\{$', re.M)
-ERROR = re.compile(r'/proofs/(\S+?)\.antt:\d+:\d+: error: (.*)$', re.M)
-RESTS_ON_REFUSED = re.compile(r'`\S+`: `\S+` was not admitted ')
-NO_PROOF = re.compile(r'^fn \w+::(\w+): no proof', re.M)
 
 
 class Crate:
-    def __init__(self, folder):
-        self.folder = folder
-        self.name = folder.name
-        self.source = next((folder / 'src').glob('*.rt')).read_text()
-        self.bodies = {}
+    def __init__(self, name):
+        self.folder = Path('crates') / name
+        (source,) = (self.folder / 'src').glob('*.rt')
+        self.source = source.read_text()
+        # Of each function where it begins, where its body does, and where both end.
+        self.functions = {}
         for found in FUNCTION.finditer(self.source):
-            start = BODY.search(self.source, found.start()).end()
-            self.bodies[found.group(1)] = (start, self.source.index('\n}\n', start))
+            body = BODY.search(self.source, found.start()).end()
+            self.functions[found.group(1)] = (found.start(), body, self.source.index('\n}\n', body))
 
     def changed(self, edit):
         """The function whose body is all that an edit changes, or None."""
         names, file = set(), ''
-        for line in edit.read_text().split('\n'):
+        for line in (self.folder / 'must-fail' / f'{edit}.edit').read_text().split('\n'):
             if line.startswith('file: '):
                 file = line.removeprefix('file: ')
             elif line.startswith('old: '):
                 at = self.source.find(line.removeprefix('old: ')) if file.startswith('src/') else -1
-                names.add(next((name for name, (start, end) in self.bodies.items() if start <= at < end), None))
+                names.add(next((name for name, (_, start, end) in self.functions.items() if start <= at < end), None))
         return names.pop() if len(names) == 1 else None
 
-    def rounds(self):
-        """The edits by rounds, numbered: {function: edit}, or {None: edit} for what changes more than a body."""
-        together, alone = [], []
-        for edit in sorted((self.folder / 'must-fail').glob('*.edit')):
-            name = self.changed(edit)
-            if name is None or re.search('^alone:', edit.read_text(), re.M):
-                alone.append({name: edit})
-                continue
-            room = next((r for r in together if name not in r), None)
-            if room is None:
-                room = {}
-                together.append(room)
-            room[name] = edit
-        return list(enumerate(together + alone))
+    def function_at(self, place):
+        """The function in which a place lies, or None. An edit leaves each line where it was."""
+        if found := PROOF.match(place):
+            return found.group(1)
+        if found := SOURCE.match(place):
+            line = int(found.group(1)) - 1
+            lines = {name: [self.source.count('\n', 0, at) for at in spans] for name, spans in self.functions.items()}
+            return next((name for name, (start, _, end) in lines.items() if start <= line <= end + 1), None)
+        return None
 
 
-def crates():
-    return [Crate(folder) for folder in sorted(Path('crates').iterdir())]
-
-
-def join(tree):
-    shutil.copytree('crates', tree / 'crates', ignore=shutil.ignore_patterns('must-fail'))
-    shutil.copy('crates.txt', tree)
-    for crate in crates():
-        for number, edits in crate.rounds():
-            folder = tree / crate.folder / 'must-fail'
-            folder.mkdir(exist_ok=True)
-            (folder / f'round{number}.edit').write_text('\n'.join(edit.read_text() for edit in edits.values()))
-
-
-def refused_for_themselves(log):
-    """The functions, and the files of laws, that have errors of their own. The proof of a function that calls itself stands in +NAME."""
-    wrong = {file for file, message in ERROR.findall(log) if not RESTS_ON_REFUSED.match(message)}
-    return {file.removesuffix('/Proof').removeprefix('+') for file in wrong} | set(NO_PROOF.findall(log))
-
-
-def faults(edits, refused, log):
-    """What is wrong with the verdict on a round, by function; {} where each wrong program is refused."""
-    if not refused:
-        return {name: 'the crate is not refused' for name in edits}
-    if None in edits:
-        return {}
-    found = refused_for_themselves(log)
-    strange = found - edits.keys()
-    if strange:
-        return {name: f'{", ".join(sorted(strange))} is refused, which is as it was' for name in edits}
-    return {name: f'{name} is not refused for itself' for name in edits.keys() - found}
-
-
-def judge(tree):
-    refused = failed = 0
-    for crate in crates():
-        for number, edits in crate.rounds():
-            base = tree / 'target' / 'must-fail' / crate.name
-            result, log = base / f'round{number}.res', base / f'round{number}' / '.log'
-            refusal = result.exists() and result.read_text() == 'refused\n'
-            found = faults(edits, refusal, log.read_text() if log.exists() else '')
-            for name, edit in edits.items():
-                verdict = f'NOT REFUSED: {found[name]}' if name in found else f'refused ({name or "the crate"})'
-                print(f'wrong program {crate.name}/{edit.stem}: {verdict}')
-            failed += len(found)
-            refused += len(edits) - len(found)
-    print(f'{refused} refused, {failed} not')
-    return failed == 0
+def elsewhere(crate, edit, only, place):
+    """Why the refusal of an edit does not count, or None."""
+    if only and 'took away' in only:
+        return f'a proof cites what it took away: {place}'
+    changed = crate.changed(edit)
+    if changed and crate.function_at(place) != changed:
+        return f'it changes {changed}, and is refused at {place or "no place"}'
+    return None
 
 
 def main(words):
-    if len(words) != 2 or words[0] not in ('join', 'judge'):
+    if len(words) != 1:
         sys.exit(__doc__)
-    if words[0] == 'join':
-        join(Path(words[1]))
-    elif not judge(Path(words[1])):
-        sys.exit(1)
+    crates, well, wrong = {}, 0, 0
+    for name, edit, only, place in REFUSED.findall(Path(words[0]).read_text()):
+        if name not in crates:
+            crates[name] = Crate(name)
+        why = elsewhere(crates[name], edit, only, place)
+        if why:
+            print(f'wrong program {name}/{edit}: {why}')
+            wrong += 1
+        else:
+            well += 1
+    print(f'wrong programs refused where they are wrong: {well}, elsewhere: {wrong}')
+    sys.exit(wrong > 0)
 
 
 main(sys.argv[1:])

@@ -1,4 +1,4 @@
-//! Links the proved static library, which `rt staticlib hmsr` writes at the top of the repository.
+//! Links the proved static library, which `make library` writes at the top of the repository.
 use std::env;
 use std::ffi::OsString;
 use std::path::{Path, PathBuf};
@@ -24,7 +24,7 @@ fn main() {
     }
 }
 
-/// HMSR_LIB_DIR, and else where `rt staticlib` writes. A relative one is taken from where cargo was called: cargo starts
+/// HMSR_LIB_DIR, and else where `make library` writes. A relative one is taken from where cargo was called: cargo starts
 /// this program in the package's directory, but leaves it the caller's PWD. Without a PWD, or with one that is not
 /// absolute, it is taken from the package's directory.
 pub fn directory(package: &Path, given: Option<PathBuf>, caller: Option<OsString>) -> PathBuf {
@@ -38,6 +38,6 @@ pub fn directory(package: &Path, given: Option<PathBuf>, caller: Option<OsString
 /// What to do where the library is not there.
 pub fn warning(directory: &Path) -> Option<String> {
     let library = directory.join(LIBRARY);
-    let advice = "run `rt staticlib hmsr` at the top of the repository, or set HMSR_LIB_DIR";
+    let advice = "run `make library` at the top of the repository, or set HMSR_LIB_DIR";
     (!library.is_file()).then(|| format!("{} is not there, so nothing can be linked: {advice}", library.display()))
 }

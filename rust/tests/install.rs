@@ -40,7 +40,7 @@ fn a_relative_library_directory_is_taken_from_where_cargo_was_called() {
 fn a_missing_library_is_warned_of() {
     let place = place("library");
     let warning = build_script::warning(&place).unwrap();
-    for part in [place.to_str().unwrap(), "`rt staticlib hmsr`", "HMSR_LIB_DIR"] {
+    for part in [place.to_str().unwrap(), "`make library`", "HMSR_LIB_DIR"] {
         assert!(warning.contains(part), "{warning}");
     }
     assert!(!warning.contains('\n'), "{warning}");
@@ -135,7 +135,7 @@ fn a_package_is_staged_and_taken_away_again() {
 fn the_library_and_the_program_are_built_before_they_are_installed() {
     let steps = make(&["--dry-run", "install"], Path::new(""), Path::new("out"));
     let header = top().canonicalize().unwrap().join("out/include/hmsr.h");
-    let parts = ["rt staticlib hmsr", "cargo build", "--release", header.to_str().unwrap()];
+    let parts = ["rt lib", "cargo build", "--release", header.to_str().unwrap()];
     let places: Vec<_> = parts.iter().map(|part| steps.find(part)).collect();
     assert!(places.iter().all(Option::is_some) && places.is_sorted(), "{places:?} in {steps}");
 }
