@@ -9,7 +9,7 @@ ghost use Rattle.column.specs.Solving.{most_entries};
 ghost use Rattle.column_test.specs.Progression.{stepped};
 
 use column::ENTRIES;
-use libc::STDOUT_FILENO;
+use std::io;
 
 // The columns of each size.
 const CASES: usize = 60;
@@ -176,20 +176,17 @@ fn size_digest(q: u32, m: usize) -> u64
 }
 
 // The lines of one modulus.
-fn print_sizes(q: u32)
+fn print_sizes(rt: &impl Print, q: u32) -> io::Result<()>
     requires { Prime q × (257 ≤ q) × (q ≤ 65537) }
 {
     for m in 3..ENTRIES + 1 {
-        io::print_decimal(STDOUT_FILENO, q as u64);
-        io::write_all(STDOUT_FILENO, b" ");
-        io::print_decimal(STDOUT_FILENO, m as u64);
-        io::write_all(STDOUT_FILENO, b" ");
-        io::print_decimal(STDOUT_FILENO, size_digest(q, m));
-        io::write_all(STDOUT_FILENO, b"\n");
+        let digest = size_digest(q, m);
+        println!(rt; "{q} {m} {digest}")?;
     }
+    Ok(())
 }
 
-fn main() {
-    print_sizes(257);
-    print_sizes(65537);
+fn main(rt: HostRuntime) -> io::Result<()> {
+    print_sizes(&rt, 257)?;
+    print_sizes(&rt, 65537)
 }

@@ -3,8 +3,8 @@
 // python3 tests/card_expected.py numbers > crates/numbers_test/stdout
 #![tactic(auto)]
 
-use libc::STDOUT_FILENO;
 use numbers::Number;
+use std::io;
 
 // Bytes that start, continue and end numbers.
 const BYTES: [u8; 6] = [0, 1, 3, 128, 129, 255];
@@ -82,19 +82,19 @@ fn paired(t: Tally, i: usize) -> Tally {
     read(t, &bytes, 0)
 }
 
-fn print(n: u64, behind: &[u8]) {
-    io::print_decimal(STDOUT_FILENO, n);
-    io::write_all(STDOUT_FILENO, behind);
+fn print(rt: &impl Print, n: u64, behind: &[u8]) -> io::Result<()> {
+    print!(rt; "{n}")?;
+    rt.write_all(behind)
 }
 
-fn report(name: &[u8], t: Tally) {
-    io::write_all(STDOUT_FILENO, name);
-    print(t.digest, b" ");
-    print(t.read, b" 0 0 0 0 0 ");
-    print(t.malformed, b" 0 0\n");
+fn report(rt: &impl Print, name: &[u8], t: Tally) -> io::Result<()> {
+    rt.write_all(name)?;
+    print(rt, t.digest, b" ")?;
+    print(rt, t.read, b" 0 0 0 0 0 ")?;
+    print(rt, t.malformed, b" 0 0\n")
 }
 
-fn run(name: &[u8], pairs: bool, cases: usize) {
+fn run(rt: &impl Print, name: &[u8], pairs: bool, cases: usize) -> io::Result<()> {
     let mut t = Tally {
         digest: 0,
         read: 0,
@@ -105,10 +105,10 @@ fn run(name: &[u8], pairs: bool, cases: usize) {
         t = if pairs { paired(t, i) } else { placed(t, i) };
         i += 1;
     }
-    report(name, t);
+    report(rt, name, t)
 }
 
-fn main() {
-    run(b"placed ", false, 373248);
-    run(b"paired ", true, 65536);
+fn main(rt: HostRuntime) -> io::Result<()> {
+    run(&rt, b"placed ", false, 373248)?;
+    run(&rt, b"paired ", true, 65536)
 }
