@@ -18,7 +18,7 @@ use Rattle.checking.proofs.Gathering.{gathered_equation}
 use Rattle.checking.proofs.Checking.{MetBelow, met_more, met_skip, sound_when, unmet_when}
 use Rattle.checking.proofs.first_unmet.Invariants.{shape}
 use Rattle.checking.proofs.first_unmet.Goals as goal
-use Rattle.checking.proofs.first_unmet.Goals.{After-gathered-column, After-two_to-two, In-loop-a, In-loop-t, Start}
+use Rattle.checking.proofs.first_unmet.Goals.{After-gathered-column, After-two_to-two, In-loop-a, In-loop-t, In-loop-t-unread, Start}
 
 -- what is known of the input, at the start and inside the second loop
 able : (c : Start) → Checkable c.args.s c.args.nodes.now
@@ -112,8 +112,8 @@ sum_is c =
     ∙ gathered_equation _ (inner l).shaped.n_high _ _ _ (rw two at c.gathered-column.ensures) narrow _ _ _ _ refl (rw two at l.loop-a-test.true) c.points_at-points.ensures.1
 
 -- an equation's number is within the array of sums
-within : (c : In-loop-t) → c.loop-t.t < most_nodes
-within c = omega (arith, (inner (goal.at.In-loop-t c).In-loop-a).shaped.n_high)
+within : (c : In-loop-t-unread) → c.loop-t.t < most_nodes
+within c = omega (arith, (inner (goal.at.In-loop-t-unread c).In-loop-a).shaped.n_high)
 
 pub offset_bounds-sums-t : goal.offset_bounds-sums-t
 offset_bounds-sums-t c = omega (arith, within c)

@@ -34,8 +34,8 @@ invariant-loop-a l = (l.found ≡ Sound) × (l.a ≤ l.two) × MetBelow (shape l
 abbrev pub decreases-loop-a : goal.decreases-loop-a
 decreases-loop-a l = l.two - l.a
 
-abbrev pub invariant-equations : goal.invariant_equations
+abbrev pub invariant-equations : goal.invariant-equations
 invariant-equations l = (l.found ≡ Sound) × (l.layer ≤ l.layers) × MetBelow (shape l.n l.k l.layers) l.nodes (l.layer * l.two * l.r)
 
-abbrev pub decreases-equations : goal.decreases_equations
+abbrev pub decreases-equations : goal.decreases-equations
 decreases-equations l = l.layers - l.layer

@@ -84,7 +84,7 @@ returns-then-not-marked-node c =
     let a = s.args in
     let put = c.store.ensures in
     let summed = rw (z.size-each.ensures, c.node_numbers-all.ensures.1 _ (few s)) at c.sum_row-sums.ensures in
-    let unlisted = sym (flagged z) ∙ not-true _ (rw z.size-each.ensures at c.if-not-marked-node.true) in (
+    let unlisted = sym (flagged z) ∙ rw z.size-each.ensures at c.if-not-marked-node.true in (
       put.long,
       λ w t h. ap (λ e. opened a.s a.list.now a.symbols.now (e + t)) (sym (at z).whole)
           ∙ missing_weighed a.s a.list.now a.symbols.now (a.b % size a.s) a.run s.requires.s_value.6 a.table.now (a.b / size a.s) _ (at z).row unlisted w summed t h
@@ -92,7 +92,7 @@ returns-then-not-marked-node c =
     )
 
 pub position-requires : goal.position-requires
-position-requires c = let z = (goal.at.position-requires c).After-size-each in rw z.size-each.ensures (sym (flagged z) ∙ not-false _ (rw z.size-each.ensures at c.if-not-marked-node.false))
+position-requires c = let z = (goal.at.position-requires c).After-size-each in rw z.size-each.ensures (sym (flagged z) ∙ rw z.size-each.ensures at c.if-not-marked-node.false)
 
 pub overflow_mul-from : goal.overflow_mul-from
 overflow_mul-from c = let i = inside c in rw c.size-each.ensures (omega (arith, i.0, i.1))

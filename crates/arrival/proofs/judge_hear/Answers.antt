@@ -1,0 +1,73 @@
+-- `arrival::judge_hear` meets its contract: causes 1 to 3 with the record, the lengths, then the symbols. Assumes nothing.
+use mathlib.Core.Path.{◌≡◌, sym, ap, ap₂, ◌∙◌}
+use mathlib.Core.Bool.{not, ◌||◌}
+use Prim.Native.Nat.{◌+◌, ◌-◌, ◌≤◌, ◌*◌}
+use native.Mathlib.Omega.{arith}
+use borrow.Author.Rules.{rules}
+use lib.ListN.{length}
+use Rattle.lists.specs.Lists.{outside}
+use Rattle.shape.specs.Refusals.{answer_number, wrong_length}
+use Rattle.shape.specs.Shape.{most_nodes}
+use Rattle.classes.specs.Classes.{message_size}
+use Rattle.judging.specs.Refusals.{lists_refusal}
+use Rattle.judging.proofs.Judged.{Listed, small, share_fits, judged_stop, judged_listed, judged_length, judged_symbols, judged_done}
+use Rattle.arrival.specs.Sums.{kept_size}
+use Rattle.arrival.specs.Record.{caller_bad, hear_refusal}
+use Rattle.arrival.proofs.Records.{lists_by}
+use Rattle.arrival.proofs.judge_hear.Goals as goal
+use Rattle.arrival.proofs.judge_hear.Goals.{After-judge_lists-lists, Else-message-share, In-Done}
+
+told : (j : After-judge_lists-lists) →
+    let a = j.args in
+    answer_number j.judge_lists-lists.result
+    ≡ lists_refusal a.s a.dead.now a.helpers.now (outside a.dead.now a.new || caller_bad (a.s.k + 1) a.helpers.now a.heard.now a.helper) 0
+unfolding outside
+told j =
+    let a = j.args in
+    j.judge_lists-lists.ensures
+    ∙ ap (λ x. lists_refusal a.s a.dead.now a.helpers.now (not x || j.caller_bad.result) 0) j.listed.ensures
+    ∙ lists_by a.s a.dead.now a.helpers.now (outside a.dead.now a.new) j.caller_bad.result
+    (caller_bad (a.s.k + 1) a.helpers.now a.heard.now a.helper) 0 (j.caller_bad.ensures (a.s.k + 1))
+
+pub returns-in_default : goal.returns-in_default
+unfolding hear_refusal
+returns-in_default c = judged_stop _ _ _ _ _ (told (goal.at.returns-in_default c).After-judge_lists-lists) _ c.in_default.is _
+
+known : (c : In-Done) →
+    let a = c.args in
+    Listed a.s a.dead.now a.helpers.now (outside a.dead.now a.new || caller_bad (a.s.k + 1) a.helpers.now a.heard.now a.helper)
+known c = judged_listed _ _ _ _ _ (told (goal.at.In-Done c).After-judge_lists-lists) c.in-Done.is
+
+pub size-requires : goal.size-requires
+size-requires c = (known c).shaped
+
+pub overflow_sub-n : goal.overflow_sub-n
+overflow_sub-n c = let m = small _ _ _ _ (known (goal.at.overflow_sub-n c).In-Done) in omega (arith, m.few)
+
+pub overflow_mul-n : goal.overflow_mul-n
+overflow_mul-n c =
+    let k = known (goal.at.overflow_mul-n c).In-Done in
+    let m = small _ _ _ _ k in
+    let s = c.args.s in
+    let h : s.n - s.k ≤ most_nodes * most_nodes = omega (arith, m.n_high) in
+    omega (arith, share_fits _ _ _ _ k _ _ h c.size.ensures)
+
+pub overflow_add-k : goal.overflow_add-k
+overflow_add-k c = let m = small _ _ _ _ (known (goal.at.overflow_add-k c).In-Done) in omega (arith, m.few, m.n_high)
+
+pub returns-then-message-share : goal.returns-then-message-share
+unfolding hear_refusal wrong_length message_size kept_size
+returns-then-message-share c =
+    judged_length _ _ _ _ _ (told (goal.at.returns-then-message-share c).After-judge_lists-lists) c.in-Done.is _ _ (rw c.size.ensures at c.if-message-share.true)
+
+pub returns-then-symbol_bad : goal.returns-then-symbol_bad
+unfolding hear_refusal wrong_length message_size kept_size
+returns-then-symbol_bad c =
+    judged_symbols _ _ _ _ _ (told (goal.at.returns-then-symbol_bad c).After-judge_lists-lists) c.in-Done.is _ _ (rw c.size.ensures at c.if-message-share.false)
+    (sym (ap₂ ◌||◌ c.symbol_bad.ensures c.symbol_bad-2.ensures) ∙ c.if-symbol_bad.true)
+
+pub returns : goal.returns
+unfolding hear_refusal wrong_length message_size kept_size
+returns c =
+    judged_done _ _ _ _ _ (told (goal.at.returns c).After-judge_lists-lists) c.in-Done.is _ _ (rw c.size.ensures at c.if-message-share.false)
+    (sym (ap₂ ◌||◌ c.symbol_bad.ensures c.symbol_bad-2.ensures) ∙ c.if-symbol_bad.false)

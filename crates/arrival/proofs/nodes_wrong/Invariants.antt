@@ -1,0 +1,16 @@
+-- `arrival::nodes_wrong` meets its contract: the nodes are wrong where those that are left are. Assumes nothing.
+use mathlib.Core.Path.{◌≡◌, refl, sym, ap, ◌∙◌}
+use Prim.Native.Nat.{◌≤◌, ◌+◌, ◌-◌}
+use native.Mathlib.Omega.{arith}
+use borrow.Author.Rules.{rules}
+use lib.ListN.{length, drop}
+use Rattle.lists.specs.Lists.{member}
+use Rattle.lists.proofs.Parts.{tail_lent}
+use Rattle.arrival.proofs.Records.{wrong, wrong_stop, wrong_on, wrong_end}
+use Rattle.arrival.proofs.nodes_wrong.Given as goal
+
+abbrev pub invariant-loop-j : goal.invariant-loop-j
+invariant-loop-j l = (l.j ≤ length l.nodes) × (wrong l.helpers l.nodes ≡ wrong l.helpers (drop l.j l.nodes))
+
+abbrev pub decreases-loop-j : goal.decreases-loop-j
+decreases-loop-j l = length l.nodes - l.j
