@@ -158,7 +158,7 @@ pub fn cross_batch(
     sums: &[u16],
     symbols: &mut [u16],
 )
-    requires members_value { (every ≡ true → members.now ≡ range 0 (length members.now)) × (Apart members.now near far (length symbols.old)) × (length sums.now ≡ length members.now) }
+    requires apart { (every ≡ true → members.now ≡ range 0 (length members.now)) × (Apart members.now near far (length symbols.old)) × (length sums.now ≡ length members.now) }
     requires low { (Low narrow.modulus sums.now) × (LowNear narrow.modulus members.now near symbols.old) }
     ensures { Stored (length members.now) (turned members.now far) (left_in narrow members.now near sums.now symbols.old) symbols.old symbols.new }
 {

@@ -2,15 +2,12 @@
 -- that meet the triangle's equations meet the equations.
 use mathlib.Core.Path.{◌≡◌, refl, sym, ap, ap₂, ◌∙◌}
 use mathlib.Core.Logic.{◌≢◌}
-use mathlib.Core.List.{List}
-use Prim.Native.Nat.{ℕ, zero, suc, ◌+◌, ◌-◌, ◌*◌, ◌%◌, ◌^◌, ◌<◌}
+use Prim.Native.Nat.{ℕ, zero, suc, ◌+◌, ◌*◌, ◌%◌, ◌<◌}
 use native.Mathlib.Numerals.{add-one}
 use native.Mathlib.Omega.{arith}
-use lib.ListN.{length, get_or}
-use Rattle.lists.specs.Sums.{sum}
 use Rattle.field.specs.Residues.{minus}
 use Rattle.field.proofs.Ring.{Ring, Field, ring, mul_ne_zero}
-use Rattle.field.proofs.Powers.{pow, pow_zero, pow_suc}
+use Rattle.field.proofs.Powers.{pow, pow_suc}
 use Rattle.column.specs.Solving.{less, eliminated, differences as numberDifferences}
 
 -- ---- in numbers: one point more

@@ -1,19 +1,19 @@
 -- Back substitution: one value more, the last unknown first.
-use mathlib.Core.Path.{◌≡◌, refl, sym, ap, ap₂, ◌∙◌}
+use mathlib.Core.Path.{◌≡◌, sym, ap, ap₂, ◌∙◌}
 use mathlib.Core.Logic.{◌≢◌}
 use mathlib.Core.List.{List}
 use Prim.Native.Nat.{ℕ, suc, ◌+◌, ◌-◌, ◌*◌, ◌%◌, ◌≤◌, ◌<◌}
 use native.Mathlib.Nat.{add-zero}
 use native.Mathlib.Decide.{ℕ_discrete}
 use native.Mathlib.Omega.{arith}
-use lib.ListN.{length, get_or, set}
+use lib.ListN.{length, set}
 use lib.Seq.{get_or-set_same, get_or-set_other}
 use Rattle.lists.specs.Lists.{element}
 use Rattle.lists.specs.Sums.{sum}
 use Rattle.lists.proofs.Sums.{sum_ext, sum_first}
 use Rattle.field.specs.Residues.{Prime, minus}
 use Rattle.field.proofs.Ring.{ring}
-use Rattle.field.proofs.Residues.{Residue, res, val_res, res_add, res_mul, res_mod, one_is}
+use Rattle.field.proofs.Residues.{Residue, val_res, res_add, res_mul, res_mod, one_is}
 use Rattle.field.proofs.Fields.{pos, R}
 use Rattle.field.proofs.Bridge.{r as residue, minus_is}
 use Rattle.column.specs.Solving.{cell, row_of, term, Meets}

@@ -11,8 +11,8 @@ use lib.ListN.{length, take, set, length-set, get_or-append}
 use lib.Seq.{get_or-set_same, get_or-set_other, get_or-take, length-take-le}
 use Rattle.lists.specs.Lists.{element}
 use Rattle.field.specs.Residues.{Prime}
-use Rattle.field.proofs.Ring.{Ring, Field, mul_ne_zero}
-use Rattle.field.proofs.Residues.{res_mul, res_mod, res_zero, mod_mul_mod, mul_mod_mod}
+use Rattle.field.proofs.Ring.{mul_ne_zero}
+use Rattle.field.proofs.Residues.{res_mul, res_zero, mod_mul_mod, mul_mod_mod}
 use Rattle.field.proofs.Fields.{pos, R}
 use Rattle.field.proofs.Bridge.{r as residue, K as field}
 use Rattle.lists.proofs.Stores.{stored_more}

@@ -246,7 +246,7 @@ fn data_row(
     table: &[u16],
     symbols: &[u16],
 ) -> [u16; RUN]
-    requires s_value { (shape_bad s ≡ false) × (rising 0 s.n list.now ≡ true) × (length list.now ≡ s.k) × Marks s.n list.now marked × (b < s.k * size s) × (run ≤ most_places) × (b % size s + run ≤ size s) }
+    requires placed { (shape_bad s ≡ false) × (rising 0 s.n list.now ≡ true) × (length list.now ≡ s.k) × Marks s.n list.now marked × (b < s.k * size s) × (run ≤ most_places) × (b % size s + run ≤ size s) }
     requires table_len { (length table.now ≡ table_size) × Low narrow.modulus table.now × (length symbols.now ≡ s.k * size s) × ((j t : ℕ) → j < s.k → t < run → get_or symbols.now (j * size s + b % size s + t) 0 < narrow.modulus) }
     ensures { (length result ≡ most_places) × (Factors s list.now table.now (b % size s) run → (t : ℕ) → t < run → opened s list.now symbols.now (b + t) ≡ get_or result t 0) }
 {

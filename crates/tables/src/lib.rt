@@ -132,7 +132,7 @@ fn all_rows(
     skipped: [bool; FLAGS],
     table: &mut [u16],
 )
-    requires n_le_most_entries { (n ≤ most_entries) × (m ≤ n) × (run ≤ most_places) × (length points.now ≡ points_size) × Low narrow.modulus points.now × (rising 0 n list.now ≡ true) × (n * length list.now * most_places ≤ table_size) }
+    requires sizes { (n ≤ most_entries) × (m ≤ n) × (run ≤ most_places) × (length points.now ≡ points_size) × Low narrow.modulus points.now × (rising 0 n list.now ≡ true) × (n * length list.now * most_places ≤ table_size) }
     requires marks { Marks n list.now marked × ((i : ℕ) → i < m → get_or skipped i false ≡ false → get_or marked i false ≡ false) × (length table.old ≡ table_size) × Low narrow.modulus table.old }
     ensures { (P : ℕ → List ℕ) → Columns n P → PointRows n P run points.now → TableOver P run list.now (λ i. get_or skipped i false) m table.new }
 {
@@ -174,7 +174,7 @@ pub fn entry_multipliers(
     skipped: [bool; FLAGS],
     table: &mut [u16],
 )
-    requires n_le_most_nodes { (n ≤ most_nodes) × (i < n) × (run ≤ most_places) × (run ≤ length each.now) × (rising 0 (n + 1) list.now ≡ true) × ((n + 1) * length list.now * most_places ≤ table_size) }
+    requires sizes { (n ≤ most_nodes) × (i < n) × (run ≤ most_places) × (run ≤ length each.now) × (rising 0 (n + 1) list.now ≡ true) × ((n + 1) * length list.now * most_places ≤ table_size) }
     requires marks { Marks (n + 1) list.now marked × ((e : ℕ) → e < n + 1 → get_or skipped e false ≡ false → get_or marked e false ≡ false) × (length table.old ≡ table_size) × Low narrow.modulus table.old }
     ensures { TableOver (entry_points n i (element each.now)) run list.now (λ e. get_or skipped e false) (n + 1) table.new }
 {

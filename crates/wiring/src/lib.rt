@@ -114,7 +114,7 @@ fn run_on_wire(
     wire: &mut [u16],
 )
     requires ready { (Ready dead.now g) × (u < length dead.now) × (told ≡ inward g.shape dead.now) × (length part.old ≡ size g.shape) × (Wired g.shape dead.now helpers.now wire.old) }
-    requires run_le_most_places { (run ≤ most_places) × (first + run ≤ message_size g.shape dead.now) × (Multiplied g.shape dead.now helpers.now u first run table.now) × (Offsets g.shape dead.now u first run row ones.now others.now) }
+    requires run_fits { (run ≤ most_places) × (first + run ≤ message_size g.shape dead.now) × (Multiplied g.shape dead.now helpers.now u first run table.now) × (Offsets g.shape dead.now u first run row ones.now others.now) }
     ensures { OnWire g.shape dead.now helpers.now u (InRun first run) part.old part.new wire.old wire.new }
 {
     let s = g.shape;
@@ -156,7 +156,7 @@ fn batches_on_wire(
     wire: &mut [u16],
 )
     requires ready { (Ready dead.now g) × (u < length dead.now) × (told ≡ inward g.shape dead.now) × (length part.old ≡ size g.shape) × (Wired g.shape dead.now helpers.now wire.old) }
-    requires run_le_most_places { (run ≤ most_places) × (first + run ≤ count) × (message_size g.shape dead.now ≡ g.batches * count) × ((b : ℕ) → b < g.batches → Multiplied g.shape dead.now helpers.now u (b * count + first) run table.now) × ((b : ℕ) → b < g.batches → Offsets g.shape dead.now u (b * count + first) run (b * g.batch * g.places) ones.now others.now) }
+    requires run_fits { (run ≤ most_places) × (first + run ≤ count) × (message_size g.shape dead.now ≡ g.batches * count) × ((b : ℕ) → b < g.batches → Multiplied g.shape dead.now helpers.now u (b * count + first) run table.now) × ((b : ℕ) → b < g.batches → Offsets g.shape dead.now u (b * count + first) run (b * g.batch * g.places) ones.now others.now) }
     ensures { OnWire g.shape dead.now helpers.now u (InLayers count first run g.batches) part.old part.new wire.old wire.new }
 {
     let batches = g.batches;

@@ -1,7 +1,6 @@
 -- `arrival::caller_bad` meets its contract: the record, then the helper. Assumes nothing.
-use mathlib.Core.Path.{sym, ap, ap₂, ◌∙◌}
+use mathlib.Core.Path.{sym, ap₂, ◌∙◌}
 use mathlib.Core.Bool.{not, ◌||◌}
-use borrow.Author.Rules.{rules}
 use Rattle.lists.specs.Lists.{outside}
 use Rattle.arrival.proofs.Records.{caller_record, caller_by}
 use Rattle.arrival.proofs.caller_bad.Goals as goal

@@ -1,6 +1,5 @@
 -- `arrival::counted` meets its contract: nothing, all the nodes that are counted, or all that there are. Assumes nothing.
 use native.Mathlib.Omega.{arith}
-use borrow.Author.Rules.{rules}
 use Rattle.arrival.proofs.Records.{counted_none, counted_all, counted_short}
 use Rattle.arrival.proofs.counted.Goals as goal
 

@@ -1,6 +1,5 @@
 -- `arrival::heard_before` meets its contract: the node is among those counted. Assumes nothing.
 use mathlib.Core.Path.{ap, ◌∙◌}
-use borrow.Author.Rules.{rules}
 use Rattle.lists.specs.Lists.{member}
 use Rattle.arrival.proofs.heard_before.Goals as goal
 

@@ -1,6 +1,5 @@
 -- `arrival::heard_count` meets its contract. Assumes nothing.
-use mathlib.Core.Path.{◌≡◌, refl, sym, ◌∙◌}
-use borrow.Author.Rules.{rules}
+use mathlib.Core.Path.{sym}
 use Rattle.arrival.proofs.Records.{count_at, count_none}
 use Rattle.arrival.proofs.heard_count.Goals as goal
 

@@ -1,9 +1,8 @@
 -- `arrival::judge_finish` meets its contract: causes 1 to 3 with the record, the lengths and the count, then the symbols. Assumes nothing.
-use mathlib.Core.Path.{◌≡◌, sym, ap, ap₂, ◌∙◌}
+use mathlib.Core.Path.{◌≡◌, sym, ap, ◌∙◌}
 use mathlib.Core.Bool.{not, ◌||◌}
 use Prim.Native.Nat.{◌+◌, ◌-◌, ◌≤◌, ◌*◌}
 use native.Mathlib.Omega.{arith}
-use borrow.Author.Rules.{rules}
 use lib.ListN.{length}
 use Rattle.lists.specs.Lists.{outside}
 use Rattle.shape.specs.Refusals.{answer_number, wrong_length}
@@ -15,7 +14,7 @@ use Rattle.arrival.specs.Sums.{kept_size}
 use Rattle.arrival.specs.Record.{record_bad, finish_refusal}
 use Rattle.arrival.proofs.Records.{lists_by}
 use Rattle.arrival.proofs.judge_finish.Goals as goal
-use Rattle.arrival.proofs.judge_finish.Goals.{After-judge_lists-lists, After-size, Else-wrong-heard_count, In-Done}
+use Rattle.arrival.proofs.judge_finish.Goals.{After-judge_lists-lists, In-Done}
 
 told : (j : After-judge_lists-lists) →
     let a = j.args in

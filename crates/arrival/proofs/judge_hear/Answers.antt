@@ -3,8 +3,6 @@ use mathlib.Core.Path.{◌≡◌, sym, ap, ap₂, ◌∙◌}
 use mathlib.Core.Bool.{not, ◌||◌}
 use Prim.Native.Nat.{◌+◌, ◌-◌, ◌≤◌, ◌*◌}
 use native.Mathlib.Omega.{arith}
-use borrow.Author.Rules.{rules}
-use lib.ListN.{length}
 use Rattle.lists.specs.Lists.{outside}
 use Rattle.shape.specs.Refusals.{answer_number, wrong_length}
 use Rattle.shape.specs.Shape.{most_nodes}
@@ -15,7 +13,7 @@ use Rattle.arrival.specs.Sums.{kept_size}
 use Rattle.arrival.specs.Record.{caller_bad, hear_refusal}
 use Rattle.arrival.proofs.Records.{lists_by}
 use Rattle.arrival.proofs.judge_hear.Goals as goal
-use Rattle.arrival.proofs.judge_hear.Goals.{After-judge_lists-lists, Else-message-share, In-Done}
+use Rattle.arrival.proofs.judge_hear.Goals.{After-judge_lists-lists, In-Done}
 
 told : (j : After-judge_lists-lists) →
     let a = j.args in

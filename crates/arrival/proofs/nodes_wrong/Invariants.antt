@@ -1,12 +1,8 @@
 -- `arrival::nodes_wrong` meets its contract: the nodes are wrong where those that are left are. Assumes nothing.
-use mathlib.Core.Path.{◌≡◌, refl, sym, ap, ◌∙◌}
-use Prim.Native.Nat.{◌≤◌, ◌+◌, ◌-◌}
-use native.Mathlib.Omega.{arith}
-use borrow.Author.Rules.{rules}
+use mathlib.Core.Path.{◌≡◌}
+use Prim.Native.Nat.{◌≤◌, ◌-◌}
 use lib.ListN.{length, drop}
-use Rattle.lists.specs.Lists.{member}
-use Rattle.lists.proofs.Parts.{tail_lent}
-use Rattle.arrival.proofs.Records.{wrong, wrong_stop, wrong_on, wrong_end}
+use Rattle.arrival.proofs.Records.{wrong}
 use Rattle.arrival.proofs.nodes_wrong.Given as goal
 
 abbrev pub invariant-loop-j : goal.invariant-loop-j

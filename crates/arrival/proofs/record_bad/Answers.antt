@@ -1,10 +1,8 @@
 -- `arrival::record_bad` meets its contract: the count, then the nodes. Assumes nothing.
 use mathlib.Core.Path.{sym, ap, ◌∙◌}
 use native.Mathlib.Omega.{arith}
-use borrow.Author.Rules.{rules}
 use Rattle.arrival.proofs.Records.{wrong, record_over, record_by}
 use Rattle.arrival.proofs.record_bad.Goals as goal
-use Rattle.arrival.proofs.record_bad.Goals.{Else-most-heard_count}
 
 pub returns-then-most-gt-MOST_NODES : goal.returns-then-most-gt-MOST_NODES
 returns-then-most-gt-MOST_NODES c most e h = absurd (omega (arith, c.if-most-gt-MOST_NODES.true))

@@ -1,13 +1,11 @@
 -- `batches::add_batch` meets its contract: what the folded sums leave is the sums. Assumes nothing.
 use mathlib.Core.Path.{ap, ◌∙◌}
-use borrow.Author.Rules.{rules}
 use lib.ListN.{length}
 use Rattle.lists.specs.Lists.{tabulate}
 use Rattle.lists.proofs.Tables.{tabulate_ext}
 use Rattle.code.specs.Code.{narrow}
 use Rattle.batches.specs.Batches.{added_in, remainder}
 use Rattle.batches.proofs.add_batch.Goals as goal
-use Rattle.batches.proofs.add_batch.Goals.{Start}
 
 pub returns : goal.returns
 unfolding remainder

@@ -1,6 +1,6 @@
 -- `batches::cross_batch` meets its contract. Assumes nothing.
 use mathlib.Core.Path.{◌≡◌, refl, sym, ap, ◌∙◌}
-use Prim.Native.Nat.{◌-◌, ◌≤◌, ◌<◌}
+use Prim.Native.Nat.{◌-◌, ◌<◌}
 use native.Mathlib.Omega.{arith}
 use lib.Bits.{bit_xor}
 use borrow.Author.Tests.{eqb-true}
@@ -9,28 +9,28 @@ use Rattle.lists.specs.Lists.{range}
 use Rattle.lists.proofs.Tests.{both}
 use Rattle.code.specs.Code.{narrow}
 use Rattle.field.specs.Residues.{minus}
-use Rattle.batches.specs.Batches.{turned, left_in, Stored}
+use Rattle.batches.specs.Batches.{turned, left_in}
 use Rattle.batches.proofs.Batches.{turned_is, stored_none, stored_more, row_room}
 use borrow.Author.Rules.{rules}
 use Rattle.batches.proofs.cross_batch.Goals as goal
-use Rattle.batches.proofs.cross_batch.Goals.{In-loop-x, Start, Then-every-near}
+use Rattle.batches.proofs.cross_batch.Goals.{In-loop-x, Then-every-near}
 
 -- every a is a member, and the near places are the first
 whole : (c : Then-every-near) → let a = c.args in (a.near ≡ 0) × (a.members.now ≡ range 0 (length a.members.now))
-whole c = let b = both _ _ c.if-every-near.true in (eqb-true _ _ b.1, c.requires.members_value.0 b.0)
+whole c = let b = both _ _ c.if-every-near.true in (eqb-true _ _ b.1, c.requires.apart.0 b.0)
 
 pub cross_rows-requires : goal.cross_rows-requires
 cross_rows-requires c =
     let p = c.requires in
     let w = whole (goal.at.cross_rows-requires c).Then-every-near in
-    let A = rw (w.0, w.1) at p.members_value.1 in
-    record { apart = (rw p.members_value.2 A, rw p.members_value.2 (row_room _ A)); low = (p.low.0, rw p.members_value.2 (rw (w.0, w.1) at p.low.1)) }
+    let A = rw (w.0, w.1) at p.apart.1 in
+    record { apart = (rw p.apart.2 A, rw p.apart.2 (row_room _ A)); low = (p.low.0, rw p.apart.2 (rw (w.0, w.1) at p.low.1)) }
 
 pub returns-then-every-near : goal.returns-then-every-near
 returns-then-every-near c =
     let p = c.requires in
     let w = whole (goal.at.returns-then-every-near c).Then-every-near in
-    rw w.0 (rw (p.members_value.2, ← w.1) at c.cross_rows.ensures)
+    rw w.0 (rw (p.apart.2, ← w.1) at c.cross_rows.ensures)
 
 pub loop-x-init : goal.loop-x-init
 loop-x-init c = (search rules, refl, stored_none _ _ _)
@@ -43,7 +43,7 @@ here : (c : In-loop-x) →
 here c =
     let x = c.loop-x.x in
     let l : x < length c.args.members.now = omega arith in
-    rw c.loop-x.invariant.2.long (rw turned_is at (c.requires.members_value.1.near_low x l), rw turned_is at (c.requires.members_value.1.far_low x l))
+    rw c.loop-x.invariant.2.long (rw turned_is at (c.requires.apart.1.near_low x l), rw turned_is at (c.requires.apart.1.far_low x l))
 
 -- what stands at the near place was there before
 near_kept : (c : In-loop-x) →
@@ -55,7 +55,7 @@ near_kept c =
     let l = c.loop-x in
     let k : l.x < length a.members.now = omega arith in
     ap (λ z. get_or l.symbols z 0) (sym (turned_is a.members.now a.near l.x))
-    ∙ l.invariant.2.rest (turned a.members.now a.near l.x) (λ x h z. c.requires.members_value.1.apart l.x x k (omega arith) (sym z))
+    ∙ l.invariant.2.rest (turned a.members.now a.near l.x) (λ x h z. c.requires.apart.1.apart l.x x k (omega arith) (sym z))
 
 pub overflow_cast-a : goal.overflow_cast-a
 overflow_cast-a c = omega (arith, c.type_inv.members c.loop-x.x)
@@ -82,7 +82,7 @@ unfolding left_in
 loop-x-preserved c =
     let l = c.loop-x in
     let a = c.args in
-    let A = c.requires.members_value.1 in
+    let A = c.requires.apart.1 in
     let k : l.x < length a.members.now = omega arith in (
       search rules,
       refl,

@@ -1,17 +1,9 @@
 -- `batches::cross_batch` meets its contract. Assumes nothing.
-use mathlib.Core.Path.{◌≡◌, refl, sym, ap, ◌∙◌}
-use Prim.Native.Nat.{◌-◌, ◌≤◌, ◌<◌}
-use native.Mathlib.Omega.{arith}
-use lib.Bits.{bit_xor}
-use borrow.Author.Tests.{eqb-true}
-use lib.ListN.{length, get_or}
-use Rattle.lists.specs.Lists.{range}
-use Rattle.lists.proofs.Tests.{both}
+use mathlib.Core.Path.{◌≡◌}
+use Prim.Native.Nat.{◌-◌, ◌≤◌}
+use lib.ListN.{length}
 use Rattle.code.specs.Code.{narrow}
-use Rattle.field.specs.Residues.{minus}
 use Rattle.batches.specs.Batches.{turned, left_in, Stored}
-use Rattle.batches.proofs.Batches.{turned_is, stored_none, stored_more, row_room}
-use borrow.Author.Rules.{rules}
 use Rattle.batches.proofs.cross_batch.Given as goal
 
 abbrev pub invariant-loop-x : goal.invariant-loop-x

@@ -1,16 +1,11 @@
 -- `batches::cross_rows` meets its contract. Assumes nothing.
-use mathlib.Core.Path.{◌≡◌, refl, ◌∙◌}
+use mathlib.Core.Path.{◌≡◌}
 use Prim.Native.Nat.{◌-◌, ◌≤◌}
-use native.Mathlib.Omega.{arith}
-use borrow.Author.Rules.{rules}
-use lib.ListN.{length, take, length-take}
-use lib.Seq.{length_front}
+use lib.ListN.{length}
 use Rattle.lists.specs.Lists.{range}
-use Rattle.lists.proofs.Tables.{range_length}
 use Rattle.rows.specs.Rows.{most_places}
 use Rattle.code.specs.Code.{narrow}
 use Rattle.batches.specs.Batches.{turned, left_in, Stored}
-use Rattle.batches.proofs.Batches.{stored_none, low_kept, crossed_more}
 use Rattle.batches.proofs.cross_rows.Given as goal
 
 abbrev pub invariant-loop-x : goal.invariant-loop-x

@@ -1,13 +1,11 @@
 -- `batches::cross_run` meets its contract. Assumes nothing.
 use Prim.Native.Nat.{◌+◌, ◌-◌}
 use native.Mathlib.Omega.{arith}
-use borrow.Author.Rules.{rules}
 use lib.ListN.{length, length-take, length-drop}
 use Rattle.rows.proofs.Rows.{low_part}
 use Rattle.code.specs.Code.{narrow}
 use Rattle.batches.proofs.Batches.{row_far, row_part, row_crossed}
 use Rattle.batches.proofs.cross_run.Goals as goal
-use Rattle.batches.proofs.cross_run.Goals.{Start}
 
 pub overflow_add-end : goal.overflow_add-end
 overflow_add-end c = let p = c.requires in omega (arith, p.apart.1)

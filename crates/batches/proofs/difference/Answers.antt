@@ -1,6 +1,5 @@
 -- `batches::difference` meets its contract: the sum and the modulus, less a symbol, is below twice the modulus. Assumes nothing.
 use native.Mathlib.Omega.{arith}
-use borrow.Author.Rules.{rules}
 use Rattle.field.specs.Residues.{minus}
 use Rattle.batches.proofs.difference.Goals as goal
 

@@ -1,12 +1,9 @@
 -- `batches::differences` meets its contract. Assumes nothing.
 use mathlib.Core.Path.{◌≡◌, refl}
-use Prim.Native.Nat.{◌-◌, ◌≤◌}
+use Prim.Native.Nat.{◌-◌}
 use native.Mathlib.Omega.{arith}
 use borrow.Author.Rules.{rules}
-use lib.ListN.{length, get_or}
-use Rattle.field.specs.Residues.{minus}
-use Rattle.code.specs.Code.{narrow}
-use Rattle.batches.specs.Batches.{Stored}
+use lib.ListN.{length}
 use Rattle.batches.proofs.Batches.{stored_none, stored_more}
 use Rattle.batches.proofs.differences.Goals as goal
 

@@ -1,15 +1,15 @@
 -- `batches::fold_batch` meets its contract. Assumes nothing.
 use mathlib.Core.Path.{◌≡◌, refl, ◌∙◌}
-use Prim.Native.Nat.{◌-◌, ◌≤◌, ◌<◌}
+use Prim.Native.Nat.{◌-◌, ◌<◌}
 use native.Mathlib.Omega.{arith}
 use lib.Bits.{bit_xor}
 use lib.ListN.{length, get_or, length-set}
 use Rattle.code.specs.Code.{narrow}
-use Rattle.batches.specs.Batches.{added_in, Remain}
+use Rattle.batches.specs.Batches.{added_in}
 use Rattle.batches.proofs.Batches.{turned_is, turned_none, remain_none, remain_more}
 use borrow.Author.Rules.{rules}
 use Rattle.batches.proofs.fold_batch.Goals as goal
-use Rattle.batches.proofs.fold_batch.Goals.{In-loop-x, Start}
+use Rattle.batches.proofs.fold_batch.Goals.{In-loop-x}
 
 pub fold_rows-requires : goal.fold_rows-requires
 fold_rows-requires c =

@@ -1,13 +1,9 @@
 -- `batches::fold_batch` meets its contract. Assumes nothing.
-use mathlib.Core.Path.{◌≡◌, refl, ◌∙◌}
-use Prim.Native.Nat.{◌-◌, ◌≤◌, ◌<◌}
-use native.Mathlib.Omega.{arith}
-use lib.Bits.{bit_xor}
-use lib.ListN.{length, get_or, length-set}
+use mathlib.Core.Path.{◌≡◌}
+use Prim.Native.Nat.{◌-◌, ◌≤◌}
+use lib.ListN.{length}
 use Rattle.code.specs.Code.{narrow}
 use Rattle.batches.specs.Batches.{added_in, Remain}
-use Rattle.batches.proofs.Batches.{turned_is, turned_none, remain_none, remain_more}
-use borrow.Author.Rules.{rules}
 use Rattle.batches.proofs.fold_batch.Given as goal
 
 abbrev pub invariant-loop-x : goal.invariant-loop-x

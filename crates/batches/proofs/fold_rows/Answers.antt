@@ -1,15 +1,14 @@
 -- `batches::fold_rows` meets its contract. Assumes nothing.
 use mathlib.Core.Path.{◌≡◌, refl, ◌∙◌}
-use Prim.Native.Nat.{◌-◌, ◌≤◌}
+use Prim.Native.Nat.{◌-◌}
 use native.Mathlib.Omega.{arith}
 use borrow.Author.Rules.{rules}
 use lib.ListN.{length, length-set}
 use Rattle.lists.specs.Lists.{range}
 use Rattle.code.specs.Code.{narrow}
-use Rattle.batches.specs.Batches.{added_in, Remain}
+use Rattle.batches.specs.Batches.{added_in}
 use Rattle.batches.proofs.Batches.{remain_none, remain_more, row_near, row_far, row_added}
 use Rattle.batches.proofs.fold_rows.Goals as goal
-use Rattle.batches.proofs.fold_rows.Goals.{Start}
 
 pub loop-x-init : goal.loop-x-init
 loop-x-init c = (search rules, refl, refl, remain_none _ _ _)
@@ -34,8 +33,7 @@ bounds-sums-x c = omega (arith, c.loop-x.invariant.2)
 
 pub loop-x-preserved : goal.loop-x-preserved
 loop-x-preserved c =
-    let l = c.loop-x in
-    (
+    let l = c.loop-x in (
       search rules,
       refl,
       simp length-set l.invariant.2,

@@ -1,13 +1,10 @@
 -- `batches::fold_rows` meets its contract. Assumes nothing.
-use mathlib.Core.Path.{◌≡◌, refl, ◌∙◌}
+use mathlib.Core.Path.{◌≡◌}
 use Prim.Native.Nat.{◌-◌, ◌≤◌}
-use native.Mathlib.Omega.{arith}
-use borrow.Author.Rules.{rules}
-use lib.ListN.{length, length-set}
+use lib.ListN.{length}
 use Rattle.lists.specs.Lists.{range}
 use Rattle.code.specs.Code.{narrow}
 use Rattle.batches.specs.Batches.{added_in, Remain}
-use Rattle.batches.proofs.Batches.{remain_none, remain_more, row_near, row_far, row_added}
 use Rattle.batches.proofs.fold_rows.Given as goal
 
 abbrev pub invariant-loop-x : goal.invariant-loop-x

@@ -1,14 +1,13 @@
 -- `batches::pair_batch` meets its contract. Assumes nothing.
 use mathlib.Core.Path.{◌≡◌, refl, sym, ap}
-use Prim.Native.Nat.{ℕ, ◌+◌, ◌-◌, ◌*◌, ◌≤◌, ◌<◌}
+use Prim.Native.Nat.{ℕ, ◌+◌, ◌-◌, ◌*◌, ◌<◌}
 use native.Mathlib.Omega.{arith}
 use lib.Bits.{bit_xor}
 use lib.ListN.{length, get_or, length-set}
-use Rattle.batches.specs.Batches.{PairedIn}
 use Rattle.batches.proofs.Batches.{turned_is, turned_none, paired_none, paired_more, paired_two}
 use borrow.Author.Rules.{rules}
 use Rattle.batches.proofs.pair_batch.Goals as goal
-use Rattle.batches.proofs.pair_batch.Goals.{At-loop-x, In-loop-x, Start, Then-x-count}
+use Rattle.batches.proofs.pair_batch.Goals.{At-loop-x, In-loop-x, Then-x-count}
 
 pub loop-x-init : goal.loop-x-init
 loop-x-init c = (search rules, refl, refl, paired_none _ _ _ _)

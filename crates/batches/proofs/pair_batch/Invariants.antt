@@ -1,12 +1,8 @@
 -- `batches::pair_batch` meets its contract. Assumes nothing.
-use mathlib.Core.Path.{◌≡◌, refl, sym, ap}
-use Prim.Native.Nat.{ℕ, ◌+◌, ◌-◌, ◌*◌, ◌≤◌, ◌<◌}
-use native.Mathlib.Omega.{arith}
-use lib.Bits.{bit_xor}
-use lib.ListN.{length, get_or, length-set}
+use mathlib.Core.Path.{◌≡◌}
+use Prim.Native.Nat.{◌-◌, ◌≤◌}
+use lib.ListN.{length}
 use Rattle.batches.specs.Batches.{PairedIn}
-use Rattle.batches.proofs.Batches.{turned_is, turned_none, paired_none, paired_more, paired_two}
-use borrow.Author.Rules.{rules}
 use Rattle.batches.proofs.pair_batch.Given as goal
 
 abbrev pub invariant-loop-x : goal.invariant-loop-x

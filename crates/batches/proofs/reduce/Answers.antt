@@ -1,11 +1,11 @@
 -- `batches::reduce` meets its contract. Assumes nothing.
 use mathlib.Core.Path.{◌≡◌, refl, ap}
-use Prim.Native.Nat.{◌-◌, ◌%◌, ◌≤◌}
+use Prim.Native.Nat.{◌-◌, ◌%◌}
 use native.Mathlib.Omega.{arith}
 use lib.ListN.{length, get_or}
 use Rattle.lists.proofs.Tables.{is_tabulate}
 use Rattle.code.specs.Code.{narrow}
-use Rattle.batches.specs.Batches.{remainder, Stored}
+use Rattle.batches.specs.Batches.{remainder}
 use Rattle.batches.proofs.Batches.{stored_none, stored_more}
 use borrow.Author.Rules.{rules}
 use Rattle.batches.proofs.reduce.Goals as goal

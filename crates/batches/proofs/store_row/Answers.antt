@@ -1,12 +1,9 @@
 -- `batches::store_row` meets its contract. Assumes nothing.
 use mathlib.Core.Path.{◌≡◌, refl, ap, ◌∙◌}
-use Prim.Native.Nat.{suc, ◌+◌, ◌-◌, ◌≤◌}
+use Prim.Native.Nat.{suc, ◌+◌, ◌-◌}
 use native.Mathlib.Omega.{arith}
 use borrow.Author.Rules.{rules}
-use lib.Bits.{bit_xor}
 use lib.ListN.{length}
-use Rattle.lists.specs.Lists.{element}
-use Rattle.batches.specs.Batches.{puts}
 use Rattle.batches.proofs.Batches.{puts_none, puts_next, puts_length}
 use Rattle.batches.proofs.store_row.Goals as goal
 

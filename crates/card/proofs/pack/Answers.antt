@@ -1,6 +1,5 @@
 -- `card::pack` meets its contract: it turns back with what is judged, or writes the header's numbers and then the symbols.
 use mathlib.Core.Path.{◌≡◌, sym, ap, ◌∙◌}
-use borrow.Author.Rules.{rules}
 use lib.ListN.{length}
 use Rattle.shape.specs.Shape.{symbol_values}
 use Rattle.shape.specs.Refusals.{answer_number}

@@ -1,11 +1,9 @@
 -- `card::write_header` meets its contract: five numbers where there is no hearing number, else seven.
-use borrow.Author.Rules.{rules}
 use native.Mathlib.Omega.{arith}
 use Rattle.card.specs.Cards.{header_fields, plain_numbers}
 use Rattle.card.proofs.Fronts.{numbers_plain, numbers_long}
 use Rattle.card.proofs.Packing.{form_fits, form_written}
 use Rattle.card.proofs.write_header.Goals as goal
-use Rattle.card.proofs.write_header.Goals.{Start}
 
 pub write_numbers-requires : goal.write_numbers-requires
 unfolding plain_numbers

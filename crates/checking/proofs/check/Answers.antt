@@ -1,12 +1,11 @@
 -- `checking::check` meets its contract: turned back by the judging, or answered by the look. Assumes nothing.
 use mathlib.Core.Path.{◌≡◌, sym, ap, ◌∙◌}
-use borrow.Author.Rules.{rules}
 use Rattle.shape.specs.Refusals.{answer_number}
 use Rattle.code.specs.Code.{narrow}
 use Rattle.code.specs.Refusals.{check_refusal}
 use Rattle.checking.proofs.Promised.{checks_looked, checks_refused}
 use Rattle.checking.proofs.check.Goals as goal
-use Rattle.checking.proofs.check.Goals.{After-judge_check, In-Done}
+use Rattle.checking.proofs.check.Goals.{In-Done}
 
 -- the judging found no cause
 accepted : (c : In-Done) → let a = c.args in check_refusal narrow a.s a.nodes.now ≡ 0

@@ -5,16 +5,15 @@ use native.Mathlib.Omega.{arith}
 use native.Mathlib.Nat.{mul-le-mul}
 use borrow.Author.Count.{below_more}
 use borrow.Author.Rules.{rules}
-use borrow.Author.Tests.{not-true}
 use lib.ListN.{length}
 use lib.Seq.{length-take-le}
 use Rattle.shape.specs.Shape.{most_nodes, size}
 use Rattle.shape.proofs.Accepted.{most_size}
 use Rattle.code.proofs.Accepted.{Checkable, check_accepted}
 use Rattle.checking.proofs.Meeting.{check_shape}
-use Rattle.checking.proofs.Data.{LowBelow, front_low, low_when, high_when}
+use Rattle.checking.proofs.Data.{front_low, low_when, high_when}
 use Rattle.checking.proofs.first_high.Goals as goal
-use Rattle.checking.proofs.first_high.Goals.{After-shared_slice_known-1, After-size-each, In-loop-e, Start, Then-nodes-e-ge-BYTE_VALUES}
+use Rattle.checking.proofs.first_high.Goals.{After-size-each, Start, Then-nodes-e-ge-BYTE_VALUES}
 
 able : (c : Start) → Checkable c.args.s c.args.nodes.now
 able c = check_accepted _ _ c.requires

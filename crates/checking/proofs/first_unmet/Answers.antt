@@ -1,24 +1,21 @@
 -- `checking::first_unmet` meets its contract: at each level of the loops every equation before this one is met. Assumes nothing.
 use mathlib.Core.Path.{◌≡◌, refl, sym, ap, ◌∙◌}
-use Prim.Native.Nat.{ℕ, ◌≤◌, ◌<◌, ◌+◌, ◌-◌, ◌*◌, ◌^◌}
+use Prim.Native.Nat.{◌≤◌, ◌<◌, ◌+◌, ◌-◌, ◌*◌, ◌^◌}
 use native.Mathlib.Omega.{arith}
 use borrow.Author.Rules.{rules}
 use lib.Arith.{digits_lt}
 use lib.ListN.{length}
 use lib.Seq.{length-take-le}
 use Rattle.lists.specs.Lists.{element}
-use Rattle.shape.specs.declared.Shape.{Shape}
 use Rattle.shape.specs.Shape.{most_nodes, size}
 use Rattle.shape.proofs.Accepted.{most_size}
-use Rattle.checking.specs.declared.Checked.TheVariants.{Sound}
 use Rattle.code.specs.Code.{narrow}
 use Rattle.code.specs.Archive.{equation}
 use Rattle.code.proofs.Accepted.{Checkable, check_accepted}
 use Rattle.checking.proofs.Gathering.{gathered_equation}
-use Rattle.checking.proofs.Checking.{MetBelow, met_more, met_skip, sound_when, unmet_when}
-use Rattle.checking.proofs.first_unmet.Invariants.{shape}
+use Rattle.checking.proofs.Checking.{met_more, met_skip, sound_when, unmet_when}
 use Rattle.checking.proofs.first_unmet.Goals as goal
-use Rattle.checking.proofs.first_unmet.Goals.{After-gathered-column, After-two_to-two, In-loop-a, In-loop-t, In-loop-t-unread, Start}
+use Rattle.checking.proofs.first_unmet.Goals.{After-gathered-column, In-loop-a, In-loop-t, In-loop-t-unread, Start}
 
 -- what is known of the input, at the start and inside the second loop
 able : (c : Start) → Checkable c.args.s c.args.nodes.now

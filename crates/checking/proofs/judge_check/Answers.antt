@@ -3,13 +3,12 @@ use mathlib.Core.Path.{◌≡◌, sym, ◌∙◌}
 use mathlib.Core.Bool.{false}
 use native.Mathlib.Omega.{arith}
 use native.Mathlib.Nat.{mul-le-mul}
-use borrow.Author.Rules.{rules}
 use borrow.Author.Tests.{eq-eqb, ne_eqb}
 use Rattle.shape.specs.Refusals.{shape_bad, wrong_length}
 use Rattle.shape.proofs.Accepted.{shape_accepted}
 use Rattle.code.specs.Refusals.{check_refusal}
 use Rattle.checking.proofs.judge_check.Goals as goal
-use Rattle.checking.proofs.judge_check.Goals.{After-size, Else-nodes-n, Else-shape_bad}
+use Rattle.checking.proofs.judge_check.Goals.{Else-shape_bad}
 
 pub returns-then-shape_bad : goal.returns-then-shape_bad
 unfolding check_refusal

@@ -1,6 +1,5 @@
 -- `checking::look` meets its contract: the answer of the equations, otherwise that of the data symbols. Assumes nothing.
 use mathlib.Core.Path.{ap₂, ◌∙◌}
-use borrow.Author.Rules.{rules}
 use Rattle.checking.specs.Promises.{otherwise, check_answer}
 use Rattle.checking.proofs.look.Goals as goal
 

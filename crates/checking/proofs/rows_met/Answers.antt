@@ -2,13 +2,12 @@
 use mathlib.Core.Path.{sym}
 use Prim.Native.Nat.{◌≤◌}
 use native.Mathlib.Omega.{arith}
-use borrow.Author.Rules.{rules}
 use lib.Seq.{length-take-le}
 use Rattle.shape.specs.Shape.{most_nodes}
 use Rattle.code.proofs.Accepted.{check_accepted}
 use Rattle.checking.proofs.Meeting.{check_shape, checkable_fillable, held_met}
 use Rattle.checking.proofs.rows_met.Goals as goal
-use Rattle.checking.proofs.rows_met.Goals.{After-shared_slice_known-1, Start}
+use Rattle.checking.proofs.rows_met.Goals.{After-shared_slice_known-1}
 
 few : (c : After-shared_slice_known-1) → c.args.s.k ≤ most_nodes
 few c = let able = check_accepted _ _ c.requires in omega (arith, able.shaped.k_high, able.shaped.n_high)

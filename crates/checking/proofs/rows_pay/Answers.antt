@@ -1,6 +1,5 @@
 -- `checking::rows_pay` is safe. Assumes nothing.
 use native.Mathlib.Omega.{arith}
-use borrow.Author.Rules.{rules}
 use Rattle.shape.proofs.Accepted.{shape_accepted}
 use Rattle.checking.proofs.rows_pay.Goals as goal
 

@@ -1,8 +1,7 @@
 -- `choosing::common` meets its contract: no multiple of l before l × j is one of s, and l × s is. Assumes nothing.
-use Prim.Native.Nat.{◌-◌, ◌≤◌, ◌<◌}
+use Prim.Native.Nat.{◌-◌, ◌<◌}
 use native.Mathlib.Omega.{arith}
-use borrow.Author.Rules.{rules}
-use Rattle.choosing.proofs.Multiples.{product_fits, NoneBefore, none_more, before_last, first_common}
+use Rattle.choosing.proofs.Multiples.{product_fits, none_more, before_last, first_common}
 use Rattle.choosing.proofs.common.Goals as goal
 use Rattle.choosing.proofs.common.Goals.{In-loop-j}
 

@@ -1,8 +1,6 @@
 -- `choosing::common` meets its contract: no multiple of l before l × j is one of s, and l × s is. Assumes nothing.
 use Prim.Native.Nat.{◌-◌, ◌≤◌, ◌<◌}
-use native.Mathlib.Omega.{arith}
-use borrow.Author.Rules.{rules}
-use Rattle.choosing.proofs.Multiples.{product_fits, NoneBefore, none_more, before_last, first_common}
+use Rattle.choosing.proofs.Multiples.{NoneBefore}
 use Rattle.choosing.proofs.common.Given as goal
 
 abbrev pub invariant-loop-j : goal.invariant-loop-j

@@ -2,14 +2,13 @@
 use mathlib.Core.Path.{◌≡◌, sym, ◌∙◌}
 use mathlib.Core.Bool.{false}
 use native.Mathlib.Omega.{arith}
-use borrow.Author.Rules.{rules}
-use borrow.Author.Tests.{ltb-true, ltb-false, not-true, not-false}
+use borrow.Author.Tests.{not-true, not-false}
 use Rattle.shape.specs.Refusals.{shape_bad}
 use Rattle.shape.proofs.Accepted.{shape_accepted}
 use Rattle.choosing.proofs.Needed.{needed_least, needed_over}
 use Rattle.choosing.proofs.Promised.{counts_refused, losses_refused, none_refused, chosen}
 use Rattle.choosing.proofs.layers.Goals as goal
-use Rattle.choosing.proofs.layers.Goals.{After-needs_of-needed, Else-shape_bad}
+use Rattle.choosing.proofs.layers.Goals.{Else-shape_bad}
 
 pub returns-then-shape_bad : goal.returns-then-shape_bad
 returns-then-shape_bad c = counts_refused _ _ _ (sym c.shape_bad.ensures ∙ c.if-shape_bad.true)

@@ -1,5 +1,4 @@
 -- `classes::among` meets its contract: by which of the two is lower. Assumes nothing.
-use borrow.Author.Rules.{rules}
 use borrow.Author.Tests.{lt-ltb, le-ltb}
 use Rattle.classes.specs.Steps.{place}
 use Rattle.classes.proofs.among.Goals as goal

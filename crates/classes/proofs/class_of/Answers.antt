@@ -1,6 +1,6 @@
 -- `classes::class_of` meets its contract: the class by the first v of the nodes i_0, i_s, i_2s, .. Assumes nothing.
 use mathlib.Core.Path.{◌≡◌, sym, ap, ◌∙◌}
-use Prim.Native.Nat.{◌-◌, ◌*◌, ◌≤◌, ◌<◌}
+use Prim.Native.Nat.{◌-◌, ◌*◌, ◌<◌}
 use native.Mathlib.Omega.{arith}
 use borrow.Author.Rules.{rules}
 use lib.ListN.{length}
@@ -10,7 +10,7 @@ use Rattle.classes.proofs.Layouts.{node_high}
 use Rattle.classes.proofs.Turns.{class_none, class_step, class_by_lem}
 use Rattle.classes.proofs.Layouts.{bounded}
 use Rattle.classes.proofs.class_of.Goals as goal
-use Rattle.classes.proofs.class_of.Goals.{In-loop-v, Start}
+use Rattle.classes.proofs.class_of.Goals.{In-loop-v}
 
 pub loop-v-init : goal.loop-v-init
 loop-v-init c = (search rules, sym (class_none _ _))

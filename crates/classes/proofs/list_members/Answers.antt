@@ -14,9 +14,9 @@ use lib.ListN.{length}
 use Rattle.lists.proofs.Tests.{both}
 use Rattle.shape.specs.Shape.{most_nodes}
 use Rattle.classes.proofs.Layouts.{bounded}
-use Rattle.classes.proofs.Members.{members_few, Listing, listing_none, listing_more, listing_end, all_listed}
+use Rattle.classes.proofs.Members.{members_few, listing_none, listing_more, listing_end, all_listed}
 use Rattle.classes.proofs.list_members.Goals as goal
-use Rattle.classes.proofs.list_members.Goals.{In-loop-a, Start, Then-g-c}
+use Rattle.classes.proofs.list_members.Goals.{In-loop-a, Then-g-c}
 
 -- there is one class
 alone : (c : Then-g-c) → let a = c.args in (a.c ≡ 0) × (top a.dead.now ≡ 0)

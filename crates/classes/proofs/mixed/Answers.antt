@@ -1,6 +1,5 @@
 -- `classes::mixed` meets its contract: by the digit. Assumes nothing.
 use mathlib.Core.Path.{sym}
-use borrow.Author.Rules.{rules}
 use borrow.Author.Tests.{eq-eqb, ne_eqb}
 use lib.Bits.{xor_zero_r}
 use Rattle.lists.specs.Digits.{bit}

@@ -1,14 +1,11 @@
 -- `classes::rank_of` meets its contract: the node is in what is left of the list, and stands nowhere else. Assumes nothing.
-use mathlib.Core.Path.{◌≡◌, sym, ◌∙◌}
+use mathlib.Core.Path.{sym, ◌∙◌}
 use mathlib.Core.Bool.{true, false, false≢true}
-use Prim.Native.Nat.{◌≤◌, ◌-◌}
+use Prim.Native.Nat.{◌-◌}
 use borrow.Author.Rules.{rules}
-use lib.ListN.{length, drop}
-use Rattle.lists.specs.Lists.{member}
 use Rattle.lists.proofs.Members.{at_position, rising_distinct}
 use Rattle.lists.proofs.Searches.{search_pass, search_end}
 use Rattle.classes.proofs.rank_of.Goals as goal
-use Rattle.classes.proofs.rank_of.Goals.{Start}
 
 pub returns-then-new-dead : goal.returns-then-new-dead
 returns-then-new-dead c =

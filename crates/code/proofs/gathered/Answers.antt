@@ -1,14 +1,13 @@
 -- `code::gathered` meets its contract: an entry for each node, stored by its index. Assumes nothing.
 use mathlib.Core.Path.{◌≡◌, refl}
-use Prim.Native.Nat.{ℕ, ◌+◌, ◌-◌, ◌*◌, ◌≤◌, ◌<◌}
+use Prim.Native.Nat.{ℕ, ◌+◌, ◌-◌, ◌*◌, ◌<◌}
 use native.Mathlib.Omega.{arith}
 use borrow.Author.Rules.{rules}
 use lib.Arith.{digits_lt}
 use lib.ListN.{length, get_or, length-set}
 use Rattle.lists.proofs.Stores.{stored_more}
-use Rattle.shape.specs.Shape.{most_nodes}
 use Rattle.code.proofs.gathered.Goals as goal
-use Rattle.code.proofs.gathered.Goals.{After-shared_slice_known-1, In-loop-j, Start}
+use Rattle.code.proofs.gathered.Goals.{After-shared_slice_known-1, In-loop-j}
 
 pub loop-j-init : goal.loop-j-init
 loop-j-init c = (search rules, search rules, λ i h. absurd (omega arith))

@@ -1,11 +1,7 @@
 -- `code::gathered` meets its contract: an entry for each node, stored by its index. Assumes nothing.
-use mathlib.Core.Path.{◌≡◌, refl}
+use mathlib.Core.Path.{◌≡◌}
 use Prim.Native.Nat.{ℕ, ◌+◌, ◌-◌, ◌*◌, ◌≤◌, ◌<◌}
-use native.Mathlib.Omega.{arith}
-use borrow.Author.Rules.{rules}
-use lib.Arith.{digits_lt}
-use lib.ListN.{length, get_or, length-set}
-use Rattle.lists.proofs.Stores.{stored_more}
+use lib.ListN.{length, get_or}
 use Rattle.shape.specs.Shape.{most_nodes}
 use Rattle.code.proofs.gathered.Given as goal
 

@@ -1,9 +1,9 @@
 -- `code::node_numbers` meets its contract: each element is its index. Assumes nothing.
 use mathlib.Core.Path.{◌≡◌, refl, sym, ap, ◌∙◌}
-use Prim.Native.Nat.{ℕ, ◌-◌, ◌≤◌, ◌<◌}
+use Prim.Native.Nat.{◌-◌, ◌<◌}
 use native.Mathlib.Omega.{arith}
 use borrow.Author.Rules.{rules}
-use lib.ListN.{length, get_or, take, length-set}
+use lib.ListN.{take, length-set}
 use lib.Seq.{ext_get_or}
 use Rattle.lists.specs.Lists.{range}
 use Rattle.lists.proofs.Stores.{stored_more}

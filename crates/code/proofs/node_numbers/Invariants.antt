@@ -1,13 +1,7 @@
 -- `code::node_numbers` meets its contract: each element is its index. Assumes nothing.
-use mathlib.Core.Path.{◌≡◌, refl, sym, ap, ◌∙◌}
+use mathlib.Core.Path.{◌≡◌}
 use Prim.Native.Nat.{ℕ, ◌-◌, ◌≤◌, ◌<◌}
-use native.Mathlib.Omega.{arith}
-use borrow.Author.Rules.{rules}
-use lib.ListN.{length, get_or, take, length-set}
-use lib.Seq.{ext_get_or}
-use Rattle.lists.specs.Lists.{range}
-use Rattle.lists.proofs.Stores.{stored_more}
-use Rattle.lists.proofs.Tables.{range_length, range_at, take_range}
+use lib.ListN.{length, get_or}
 use Rattle.shape.specs.Shape.{most_nodes}
 use Rattle.code.proofs.node_numbers.Given as goal
 

@@ -1,6 +1,5 @@
 -- `code::point` meets its contract: the table is the definition's list, whose points are below the modulus. Assumes nothing.
 use native.Mathlib.Omega.{arith}
-use borrow.Author.Rules.{rules}
 use borrow.Author.Tests.{eq-eqb, ne_eqb}
 use Rattle.lists.specs.Digits.{bit}
 use Rattle.code.specs.Code.{base_point, point}

@@ -1,14 +1,13 @@
 -- `code::points` meets its contract: the buffer is filled by index. Assumes nothing.
-use mathlib.Core.Path.{◌≡◌, refl, ap, ◌∙◌}
-use Prim.Native.Nat.{◌≤◌, ◌-◌}
+use mathlib.Core.Path.{refl, ap, ◌∙◌}
+use Prim.Native.Nat.{◌-◌}
 use native.Mathlib.Omega.{arith}
 use borrow.Author.Rules.{rules}
-use lib.ListN.{length, set, length-set}
+use lib.ListN.{set, length-set}
 use Rattle.lists.specs.Lists.{tabulate}
-use Rattle.lists.proofs.Buffers.{filled, filled_none, filled_more, filled_end}
+use Rattle.lists.proofs.Buffers.{filled_none, filled_more, filled_end}
 use Rattle.code.specs.Code.{narrow, point, points}
 use Rattle.code.proofs.points.Goals as goal
-use Rattle.code.proofs.points.Goals.{Start}
 
 pub loop-i-init : goal.loop-i-init
 loop-i-init c = (search rules, refl, filled_none _ _)

@@ -1,12 +1,9 @@
 -- `code::points` meets its contract: the buffer is filled by index. Assumes nothing.
-use mathlib.Core.Path.{◌≡◌, refl, ap, ◌∙◌}
+use mathlib.Core.Path.{◌≡◌}
 use Prim.Native.Nat.{◌≤◌, ◌-◌}
-use native.Mathlib.Omega.{arith}
-use borrow.Author.Rules.{rules}
-use lib.ListN.{length, set, length-set}
-use Rattle.lists.specs.Lists.{tabulate}
-use Rattle.lists.proofs.Buffers.{filled, filled_none, filled_more, filled_end}
-use Rattle.code.specs.Code.{narrow, point, points}
+use lib.ListN.{length}
+use Rattle.lists.proofs.Buffers.{filled}
+use Rattle.code.specs.Code.{narrow, point}
 use Rattle.code.proofs.points.Given as goal
 
 abbrev pub invariant-loop-i : goal.invariant-loop-i

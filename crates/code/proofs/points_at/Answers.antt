@@ -1,7 +1,6 @@
 -- `code::points_at` meets its contract: the first n entries of the array are lent. Assumes nothing.
 use mathlib.Core.Path.{sym, ap, ◌∙◌}
 use native.Mathlib.Omega.{arith}
-use borrow.Author.Rules.{rules}
 use lib.ListN.{length, length-append, length-drop}
 use lib.Seq.{length-take-le, take_at}
 use Rattle.code.proofs.NodePoints.{points_length}

@@ -1,16 +1,9 @@
 -- The terms added and turned into those of the next equation, one at a time.
-use mathlib.Core.Path.{◌≡◌, refl, sym, ap, ◌∙◌}
-use Prim.Native.Nat.{ℕ, ◌+◌, ◌-◌, ◌*◌, ◌%◌, ◌≤◌, ◌<◌}
-use native.Mathlib.Numerals.{add-one}
-use native.Mathlib.Omega.{arith}
-use lib.ListN.{length, length-set}
-use lib.Seq.{get_or-set_other}
+use mathlib.Core.Path.{◌≡◌}
+use Prim.Native.Nat.{ℕ, ◌-◌, ◌*◌, ◌%◌, ◌≤◌, ◌<◌}
+use lib.ListN.{length}
 use Rattle.lists.specs.Lists.{element}
 use Rattle.lists.specs.Sums.{sum}
-use Rattle.lists.proofs.Sums.{sum_suc}
-use Rattle.lists.proofs.Stores.{stored_more}
-use Rattle.column.specs.Solving.{most_entries}
-use borrow.Author.Rules.{rules}
 use Rattle.column.proofs.advance.Given as goal
 
 abbrev pub invariant-loop-i : goal.invariant-loop-i

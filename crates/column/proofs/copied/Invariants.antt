@@ -1,12 +1,9 @@
 -- The values in front of an array, one at a time.
-use mathlib.Core.Path.{◌≡◌, refl}
+use mathlib.Core.Path.{◌≡◌}
 use Prim.Native.Nat.{ℕ, ◌-◌, ◌≤◌, ◌<◌}
-use native.Mathlib.Omega.{arith}
-use lib.ListN.{length, length-set}
+use lib.ListN.{length}
 use Rattle.lists.specs.Lists.{element}
-use Rattle.lists.proofs.Stores.{stored_more}
 use Rattle.column.specs.Solving.{most_entries}
-use borrow.Author.Rules.{rules}
 use Rattle.column.proofs.copied.Given as goal
 
 abbrev pub invariant-loop-i : goal.invariant-loop-i

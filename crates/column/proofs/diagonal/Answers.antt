@@ -1,11 +1,9 @@
 -- The pivots, one at a time.
 use mathlib.Core.Path.{◌≡◌, refl}
-use Prim.Native.Nat.{ℕ, ◌-◌, ◌≤◌, ◌<◌}
 use native.Mathlib.Omega.{arith}
-use lib.ListN.{length, length-set}
-use Rattle.lists.specs.Lists.{element}
+use lib.ListN.{length-set}
 use Rattle.lists.proofs.Stores.{stored_more}
-use Rattle.column.specs.Solving.{most_entries, cell}
+use Rattle.column.specs.Solving.{cell}
 use borrow.Author.Rules.{rules}
 use Rattle.column.proofs.diagonal.Goals as goal
 

@@ -1,12 +1,11 @@
 -- `column::eliminated` meets its contract. Assumes nothing.
 use mathlib.Core.Path.{◌≡◌, refl, sym, ◌∙◌}
-use mathlib.Core.List.{List}
-use Prim.Native.Nat.{ℕ, ◌+◌, ◌-◌, ◌≤◌, ◌<◌}
+use Prim.Native.Nat.{◌+◌}
 use native.Mathlib.Omega.{arith}
-use lib.ListN.{length, length-set}
+use lib.ListN.{length-set}
 use Rattle.lists.specs.Lists.{element}
 use Rattle.lists.proofs.Stores.{stored_more}
-use Rattle.column.specs.Solving.{most_entries, less, eliminated}
+use Rattle.column.specs.Solving.{eliminated}
 use Rattle.column.proofs.Elimination.{less_ext, eliminated_more}
 use borrow.Author.Rules.{rules}
 use Rattle.column.proofs.eliminated.Invariants.{top}

@@ -1,14 +1,10 @@
 -- `column::eliminated` meets its contract. Assumes nothing.
-use mathlib.Core.Path.{◌≡◌, refl, sym, ◌∙◌}
+use mathlib.Core.Path.{◌≡◌}
 use mathlib.Core.List.{List}
-use Prim.Native.Nat.{ℕ, ◌+◌, ◌-◌, ◌≤◌, ◌<◌}
-use native.Mathlib.Omega.{arith}
-use lib.ListN.{length, length-set}
+use Prim.Native.Nat.{ℕ, ◌-◌, ◌≤◌, ◌<◌}
+use lib.ListN.{length}
 use Rattle.lists.specs.Lists.{element}
-use Rattle.lists.proofs.Stores.{stored_more}
-use Rattle.column.specs.Solving.{most_entries, less, eliminated}
-use Rattle.column.proofs.Elimination.{less_ext, eliminated_more}
-use borrow.Author.Rules.{rules}
+use Rattle.column.specs.Solving.{most_entries, eliminated}
 use Rattle.column.proofs.eliminated.Given as goal
 
 -- equation i once the points before i are eliminated

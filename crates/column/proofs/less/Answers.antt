@@ -1,14 +1,14 @@
 -- One point eliminated from a side of the equations, an equation at a time.
 use mathlib.Core.Path.{◌≡◌, ap, ◌∙◌}
-use Prim.Native.Nat.{ℕ, ◌+◌, ◌-◌, ◌≤◌, ◌<◌}
+use Prim.Native.Nat.{◌+◌}
 use native.Mathlib.Omega.{arith}
 use borrow.Author.Rules.{rules}
-use lib.ListN.{length, length-set}
+use lib.ListN.{length-set}
 use Rattle.lists.specs.Lists.{element}
 use Rattle.lists.proofs.Stores.{stored_more}
 use Rattle.field.specs.Residues.{minus}
 use Rattle.field.proofs.Bridge.{minus_mod}
-use Rattle.column.specs.Solving.{less, most_entries}
+use Rattle.column.specs.Solving.{less}
 use Rattle.column.proofs.less.Goals as goal
 
 pub loop-t-init : goal.loop-t-init

@@ -1,13 +1,8 @@
 -- One point eliminated from a side of the equations, an equation at a time.
-use mathlib.Core.Path.{◌≡◌, ap, ◌∙◌}
-use Prim.Native.Nat.{ℕ, ◌+◌, ◌-◌, ◌≤◌, ◌<◌}
-use native.Mathlib.Omega.{arith}
-use borrow.Author.Rules.{rules}
-use lib.ListN.{length, length-set}
+use mathlib.Core.Path.{◌≡◌}
+use Prim.Native.Nat.{ℕ, ◌-◌, ◌≤◌, ◌<◌}
+use lib.ListN.{length}
 use Rattle.lists.specs.Lists.{element}
-use Rattle.lists.proofs.Stores.{stored_more}
-use Rattle.field.specs.Residues.{minus}
-use Rattle.field.proofs.Bridge.{minus_mod}
 use Rattle.column.specs.Solving.{less, most_entries}
 use Rattle.column.proofs.less.Given as goal
 

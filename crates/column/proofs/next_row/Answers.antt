@@ -1,12 +1,11 @@
 -- The factors of the next equation, one at a time.
 use mathlib.Core.Path.{◌≡◌, ap, ◌∙◌}
-use Prim.Native.Nat.{ℕ, ◌-◌, ◌*◌, ◌%◌, ◌≤◌, ◌<◌}
+use Prim.Native.Nat.{◌*◌, ◌%◌}
 use native.Mathlib.Omega.{arith}
-use lib.ListN.{length, length-set}
+use lib.ListN.{length-set}
 use Rattle.lists.specs.Lists.{element}
 use Rattle.lists.proofs.Stores.{stored_more}
 use Rattle.field.specs.Residues.{minus}
-use Rattle.column.specs.Solving.{most_entries}
 use borrow.Author.Rules.{rules}
 use Rattle.column.proofs.next_row.Goals as goal
 

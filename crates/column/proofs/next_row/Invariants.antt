@@ -1,13 +1,10 @@
 -- The factors of the next equation, one at a time.
-use mathlib.Core.Path.{◌≡◌, ap, ◌∙◌}
+use mathlib.Core.Path.{◌≡◌}
 use Prim.Native.Nat.{ℕ, ◌-◌, ◌*◌, ◌%◌, ◌≤◌, ◌<◌}
-use native.Mathlib.Omega.{arith}
-use lib.ListN.{length, length-set}
+use lib.ListN.{length}
 use Rattle.lists.specs.Lists.{element}
-use Rattle.lists.proofs.Stores.{stored_more}
 use Rattle.field.specs.Residues.{minus}
 use Rattle.column.specs.Solving.{most_entries}
-use borrow.Author.Rules.{rules}
 use Rattle.column.proofs.next_row.Given as goal
 
 abbrev pub invariant-loop-j : goal.invariant-loop-j

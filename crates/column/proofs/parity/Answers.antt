@@ -1,14 +1,11 @@
 -- The left sides of the equations, one at a time: the terms of each are those of the one before, times their points.
 use mathlib.Core.Path.{◌≡◌, sym, ◌∙◌}
-use mathlib.Core.List.{List}
-use Prim.Native.Nat.{ℕ, ◌-◌, ◌*◌, ◌%◌, ◌^◌, ◌≤◌, ◌<◌}
+use Prim.Native.Nat.{◌≤◌}
 use native.Mathlib.Omega.{arith}
 use lib.ListN.{length, length-set}
 use lib.Seq.{length-take-le}
-use Rattle.lists.specs.Lists.{element}
 use Rattle.lists.proofs.Stores.{stored_more}
 use Rattle.column.specs.Column.{parity}
-use Rattle.column.specs.Solving.{most_entries}
 use Rattle.column.proofs.Terms.{terms_first, terms_more, terms_total, terms_long, terms_next, terms_added}
 use borrow.Author.Rules.{rules}
 use Rattle.column.proofs.parity.Goals as goal

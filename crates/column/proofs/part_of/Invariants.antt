@@ -1,11 +1,8 @@
 -- `column::part_of` meets its contract. Assumes nothing.
-use mathlib.Core.Path.{◌≡◌, ap, ◌∙◌}
+use mathlib.Core.Path.{◌≡◌}
 use Prim.Native.Nat.{◌-◌, ◌%◌, ◌≤◌, ◌<◌}
-use native.Mathlib.Omega.{arith}
 use Rattle.lists.specs.Sums.{sum}
-use Rattle.lists.proofs.Sums.{sum_none, sum_more}
 use Rattle.column.specs.Solving.{term}
-use borrow.Author.Rules.{rules}
 use Rattle.column.proofs.part_of.Given as goal
 
 abbrev pub invariant-loop-d : goal.invariant-loop-d

@@ -1,8 +1,4 @@
 -- Solving the Vandermonde equations: the triangle has no zero on its diagonal, and the values that meet it are the solution.
-use Prim.Native.Nat.{zero}
-use borrow.Author.Rules.{rules}
-use Rattle.field.specs.Residues.{solution}
-use Rattle.column.specs.Solving.{eliminated, Vandermonde}
 use Rattle.column.proofs.Assembled.{solved_by}
 use Rattle.column.proofs.solve.Goals as goal
 

@@ -1,17 +1,15 @@
 -- `column::substituted` meets its contract. Assumes nothing.
-use mathlib.Core.Path.{◌≡◌, sym, ap, ◌∙◌}
-use Prim.Native.Nat.{ℕ, ◌-◌, ◌*◌, ◌%◌, ◌≤◌, ◌<◌}
+use mathlib.Core.Path.{sym, ap, ◌∙◌}
+use Prim.Native.Nat.{◌-◌, ◌*◌, ◌%◌}
 use native.Mathlib.Omega.{arith}
-use lib.ListN.{length, length-set}
+use lib.ListN.{length-set}
 use Rattle.lists.specs.Lists.{element}
 use Rattle.field.specs.Residues.{minus}
-use Rattle.inverting.specs.Inverses.{Pivots}
-use Rattle.column.specs.Solving.{most_entries, pivot, Meets}
+use Rattle.column.specs.Solving.{pivot}
 use Rattle.inverting.proofs.Inverses.{pivots_ext}
 use Rattle.column.proofs.Substitution.{divided_back, value_more}
 use borrow.Author.Rules.{rules}
 use Rattle.column.proofs.substituted.Goals as goal
-use Rattle.column.proofs.substituted.Goals.{Start}
 
 pub inverses-inverted-requires : goal.inverses-inverted-requires
 inverses-inverted-requires c = (c.requires.0, c.requires.1, c.diagonal.ensures.0)

@@ -1,15 +1,9 @@
 -- `column::substituted` meets its contract. Assumes nothing.
-use mathlib.Core.Path.{◌≡◌, sym, ap, ◌∙◌}
-use Prim.Native.Nat.{ℕ, ◌-◌, ◌*◌, ◌%◌, ◌≤◌, ◌<◌}
-use native.Mathlib.Omega.{arith}
-use lib.ListN.{length, length-set}
-use Rattle.lists.specs.Lists.{element}
-use Rattle.field.specs.Residues.{minus}
+use mathlib.Core.Path.{◌≡◌}
+use Prim.Native.Nat.{ℕ, ◌≤◌, ◌<◌}
+use lib.ListN.{length}
 use Rattle.inverting.specs.Inverses.{Pivots}
 use Rattle.column.specs.Solving.{most_entries, pivot, Meets}
-use Rattle.inverting.proofs.Inverses.{pivots_ext}
-use Rattle.column.proofs.Substitution.{divided_back, value_more}
-use borrow.Author.Rules.{rules}
 use Rattle.column.proofs.substituted.Given as goal
 
 abbrev pub invariant-loop-i : goal.invariant-loop-i

@@ -1,12 +1,12 @@
 -- The triangle, a row for each equation, each from the one before.
-use mathlib.Core.Path.{◌≡◌, refl, ◌∙◌}
+use mathlib.Core.Path.{refl, ◌∙◌}
 use mathlib.Core.List.{List, []}
-use Prim.Native.Nat.{ℕ, ◌-◌, ◌≤◌, ◌<◌}
+use Prim.Native.Nat.{ℕ, ◌≤◌}
 use native.Mathlib.Omega.{arith}
-use lib.ListN.{length, get_or, length-set, replicate, get_or-replicate}
+use lib.ListN.{length-set, replicate, get_or-replicate}
 use Rattle.lists.specs.Lists.{element}
 use Rattle.lists.proofs.Stores.{stored_more}
-use Rattle.column.specs.Solving.{most_entries, differences}
+use Rattle.column.specs.Solving.{most_entries}
 use Rattle.column.proofs.Elimination.{differences_none_at, differences_next}
 use borrow.Author.Rules.{rules}
 use Rattle.column.proofs.triangle.Invariants.{Row}

@@ -2,7 +2,6 @@
 use native.Mathlib.Omega.{arith}
 use lib.ListN.{length-take}
 use Rattle.column_test.proofs.run_size.Goals as goal
-use Rattle.column_test.proofs.run_size.Goals.{Start}
 
 pub slice_bounds-run-end : goal.slice_bounds-run-end
 slice_bounds-run-end c = simp length-take (omega arith)

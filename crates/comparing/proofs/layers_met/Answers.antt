@@ -5,14 +5,13 @@ use Prim.Native.Nat.{◌+◌, ◌-◌, ◌*◌, ◌^◌, ◌≤◌}
 use native.Mathlib.Nat.{mul-le-mul_right}
 use native.Mathlib.Omega.{arith}
 use borrow.Author.Rules.{rules}
-use borrow.Author.Tests.{not-false}
 use lib.Pow.{pow_pos}
 use Rattle.shape.specs.Shape.{size}
 use Rattle.shape.proofs.Accepted.{shape_accepted, most_size}
 use Rattle.filling.specs.Filling.{Filled, InLayers}
 use Rattle.filling.proofs.Filling.{run_filled, layers_none, layers_more}
 use Rattle.comparing.proofs.layers_met.Goals as goal
-use Rattle.comparing.proofs.layers_met.Goals.{After-slice_known-2-1, In-loop-layer, Start}
+use Rattle.comparing.proofs.layers_met.Goals.{In-loop-layer}
 
 pub two_to-two-requires : goal.two_to-two-requires
 two_to-two-requires c =

@@ -2,10 +2,8 @@
 use mathlib.Core.Path.{sym}
 use mathlib.Core.Bool.{true≢false}
 use native.Mathlib.Omega.{arith}
-use borrow.Author.Rules.{rules}
 use Rattle.shape.proofs.Accepted.{shape_accepted}
 use Rattle.comparing.proofs.listed_met.Goals as goal
-use Rattle.comparing.proofs.listed_met.Goals.{After-marks-marked, Start}
 
 pub marks-marked-requires : goal.marks-marked-requires
 marks-marked-requires c = omega (arith, (shape_accepted _ c.requires.0).n_high)

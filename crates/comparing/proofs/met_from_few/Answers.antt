@@ -5,7 +5,6 @@ use Rattle.shape.proofs.Accepted.{shape_accepted}
 use Rattle.rows.proofs.Rows.{low_replicate}
 use Rattle.tables.specs.Tables.{table_size}
 use Rattle.comparing.proofs.met_from_few.Goals as goal
-use Rattle.comparing.proofs.met_from_few.Goals.{After-represent, Start}
 
 pub represent-requires : goal.represent-requires
 represent-requires c =

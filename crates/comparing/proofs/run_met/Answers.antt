@@ -4,12 +4,11 @@ use mathlib.Core.Bool.{true≢false}
 use Prim.Native.Nat.{◌+◌, ◌-◌, ◌*◌, ◌≤◌}
 use native.Mathlib.Omega.{arith}
 use borrow.Author.Rules.{rules}
-use borrow.Author.Tests.{not-false}
 use lib.ListN.{length}
 use Rattle.filling.specs.Filling.{FilledRun}
 use Rattle.filling.proofs.Filling.{filled_run_none, filled_run_skip, filled_run_more, fill_summable, table_room, row_room}
 use Rattle.comparing.proofs.run_met.Goals as goal
-use Rattle.comparing.proofs.run_met.Goals.{After-sum_row-sums, Start}
+use Rattle.comparing.proofs.run_met.Goals.{After-sum_row-sums}
 
 pub loop-i-init : goal.loop-i-init
 loop-i-init c =
@@ -50,8 +49,7 @@ returns-then-not-same_row c = λ h. absurd (true≢false (sym h))
 
 pub loop-i-preserved : goal.loop-i-preserved
 loop-i-preserved c =
-    let l = c.loop-i in
-    (
+    let l = c.loop-i in (
       search rules,
       filled_run_more _ _ _ _ _ _ _ c.requires.0 c.requires.3 l.i _ l.invariant.1 (omega arith) (sym (c.requires.1.each l.i (omega arith)) ∙ c.if-marked-i.false)
           _ _ c.sum_row-sums.ensures (c.same_row.ensures c.if-not-same_row.false),

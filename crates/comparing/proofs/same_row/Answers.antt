@@ -1,14 +1,12 @@
 -- `comparing::same_row` meets its contract. Assumes nothing.
 use mathlib.Core.Path.{◌≡◌}
-use mathlib.Core.Bool.{true}
-use Prim.Native.Nat.{◌+◌, ◌-◌, ◌≤◌}
+use Prim.Native.Nat.{◌+◌, ◌-◌}
 use native.Mathlib.Omega.{arith}
-use Rattle.rows.specs.Rows.{Stored, remainder}
+use Rattle.rows.specs.Rows.{remainder}
 use Rattle.rows.proofs.Rows.{stored_none}
 use Rattle.comparing.proofs.Comparing.{same_more}
 use borrow.Author.Rules.{rules}
 use Rattle.comparing.proofs.same_row.Goals as goal
-use Rattle.comparing.proofs.same_row.Goals.{Start}
 
 pub loop-i-init : goal.loop-i-init
 loop-i-init c = (search rules, λ _. stored_none _ _ _)

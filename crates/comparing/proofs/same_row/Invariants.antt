@@ -1,12 +1,8 @@
 -- `comparing::same_row` meets its contract. Assumes nothing.
 use mathlib.Core.Path.{◌≡◌}
 use mathlib.Core.Bool.{true}
-use Prim.Native.Nat.{◌+◌, ◌-◌, ◌≤◌}
-use native.Mathlib.Omega.{arith}
+use Prim.Native.Nat.{◌-◌, ◌≤◌}
 use Rattle.rows.specs.Rows.{Stored, remainder}
-use Rattle.rows.proofs.Rows.{stored_none}
-use Rattle.comparing.proofs.Comparing.{same_more}
-use borrow.Author.Rules.{rules}
 use Rattle.comparing.proofs.same_row.Given as goal
 
 abbrev pub invariant-loop-i : goal.invariant-loop-i

@@ -2,9 +2,7 @@
 use mathlib.Core.Path.{◌≡◌, sym, ap, ◌∙◌}
 use Prim.Native.Nat.{◌-◌, ◌≤◌}
 use native.Mathlib.Omega.{arith}
-use borrow.Author.Rules.{rules}
 use lib.ListN.{length, take, length-take}
-use Rattle.lists.specs.Lists.{others}
 use Rattle.lists.proofs.Others.{rising_fits}
 use Rattle.column.proofs.Completing.{rest_length, rest_rising, whole_by}
 use Rattle.completion.proofs.complete.Goals as goal
@@ -35,11 +33,10 @@ pub slice_bounds-found-end : goal.slice_bounds-found-end
 slice_bounds-found-end c = omega (arith, c.missing-found.ensures.long, c.requires.0.few)
 
 pub scatter-requires-2 : goal.scatter-requires-2
-scatter-requires-2 c =
-    (
-      sym (found_count (goal.at.scatter-requires-2 c).After-missing-found) ∙ others_count (goal.at.scatter-requires-2 c).After-others-unknown,
-      rw (c.others-unknown.ensures, c.scatter.ensures.long ∙ c.requires.1) (rest_rising c.args.q _ _ _ c.requires.0),
-    )
+scatter-requires-2 c = (
+  sym (found_count (goal.at.scatter-requires-2 c).After-missing-found) ∙ others_count (goal.at.scatter-requires-2 c).After-others-unknown,
+  rw (c.others-unknown.ensures, c.scatter.ensures.long ∙ c.requires.1) (rest_rising c.args.q _ _ _ c.requires.0),
+)
 
 pub returns : goal.returns
 returns c =

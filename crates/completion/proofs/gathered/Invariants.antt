@@ -1,14 +1,9 @@
 -- `completion::gathered` meets its contract. Assumes nothing.
-use mathlib.Core.Path.{◌≡◌, refl}
+use mathlib.Core.Path.{◌≡◌}
 use Prim.Native.Nat.{ℕ, ◌-◌, ◌≤◌, ◌<◌}
-use native.Mathlib.Omega.{arith}
-use lib.ListN.{length, get_or, length-set}
+use lib.ListN.{length}
 use Rattle.lists.specs.Lists.{element}
-use Rattle.lists.proofs.Stores.{stored_more}
 use Rattle.column.specs.Solving.{most_entries}
-use Rattle.lists.proofs.Members.{rising_below}
-use Rattle.lists.proofs.Others.{rising_fits}
-use borrow.Author.Rules.{rules}
 use Rattle.completion.proofs.gathered.Given as goal
 
 abbrev pub invariant-loop-j : goal.invariant-loop-j

@@ -1,11 +1,10 @@
 -- `completion::powers` meets its contract. Assumes nothing.
 use mathlib.Core.Path.{◌≡◌, refl, sym, ◌∙◌}
-use Prim.Native.Nat.{ℕ, ◌-◌, ◌≤◌, ◌<◌}
+use Prim.Native.Nat.{◌-◌}
 use native.Mathlib.Omega.{arith}
-use lib.ListN.{length, length-set}
-use Rattle.lists.specs.Lists.{element}
+use lib.ListN.{length-set}
 use Rattle.lists.proofs.Stores.{stored_more}
-use Rattle.column.specs.Solving.{most_entries, power_of}
+use Rattle.column.specs.Solving.{power_of}
 use Rattle.field.proofs.Modular.{power_none, power_more}
 use borrow.Author.Rules.{rules}
 use Rattle.completion.proofs.powers.Goals as goal

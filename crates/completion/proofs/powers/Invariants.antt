@@ -1,13 +1,9 @@
 -- `completion::powers` meets its contract. Assumes nothing.
-use mathlib.Core.Path.{◌≡◌, refl, sym, ◌∙◌}
+use mathlib.Core.Path.{◌≡◌}
 use Prim.Native.Nat.{ℕ, ◌-◌, ◌≤◌, ◌<◌}
-use native.Mathlib.Omega.{arith}
-use lib.ListN.{length, length-set}
+use lib.ListN.{length}
 use Rattle.lists.specs.Lists.{element}
-use Rattle.lists.proofs.Stores.{stored_more}
 use Rattle.column.specs.Solving.{most_entries, power_of}
-use Rattle.field.proofs.Modular.{power_none, power_more}
-use borrow.Author.Rules.{rules}
 use Rattle.completion.proofs.powers.Given as goal
 
 abbrev pub invariant-loop-t : goal.invariant-loop-t

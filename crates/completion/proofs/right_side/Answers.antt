@@ -1,14 +1,10 @@
 -- What the known values lack to 0, an equation at a time.
 use mathlib.Core.Path.{◌≡◌, ap, ◌∙◌}
-use mathlib.Core.List.{List}
-use Prim.Native.Nat.{ℕ, ◌-◌, ◌≤◌, ◌<◌}
+use Prim.Native.Nat.{◌-◌}
 use native.Mathlib.Omega.{arith}
-use lib.ListN.{length, length-set}
-use Rattle.lists.specs.Lists.{element}
+use lib.ListN.{length-set}
 use Rattle.lists.proofs.Stores.{stored_more}
 use Rattle.field.specs.Residues.{minus}
-use Rattle.column.specs.Column.{parity}
-use Rattle.column.specs.Solving.{most_entries}
 use borrow.Author.Rules.{rules}
 use Rattle.completion.proofs.right_side.Invariants.{lacking}
 use Rattle.completion.proofs.right_side.Goals as goal

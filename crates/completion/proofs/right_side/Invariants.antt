@@ -1,15 +1,12 @@
 -- What the known values lack to 0, an equation at a time.
-use mathlib.Core.Path.{◌≡◌, ap, ◌∙◌}
+use mathlib.Core.Path.{◌≡◌}
 use mathlib.Core.List.{List}
 use Prim.Native.Nat.{ℕ, ◌-◌, ◌≤◌, ◌<◌}
-use native.Mathlib.Omega.{arith}
-use lib.ListN.{length, length-set}
+use lib.ListN.{length}
 use Rattle.lists.specs.Lists.{element}
-use Rattle.lists.proofs.Stores.{stored_more}
 use Rattle.field.specs.Residues.{minus}
 use Rattle.column.specs.Column.{parity}
 use Rattle.column.specs.Solving.{most_entries}
-use borrow.Author.Rules.{rules}
 use Rattle.completion.proofs.right_side.Given as goal
 
 -- the right side of equation t

@@ -1,10 +1,8 @@
 -- `completion::scatter` meets its contract. Assumes nothing.
-use mathlib.Core.Path.{◌≡◌, refl}
-use Prim.Native.Nat.{ℕ, ◌-◌, ◌≤◌, ◌<◌}
+use mathlib.Core.Path.{refl}
+use Prim.Native.Nat.{◌-◌, ◌≤◌, ◌<◌}
 use native.Mathlib.Omega.{arith}
 use lib.ListN.{length, get_or, length-set}
-use mathlib.Core.Bool.{false}
-use Rattle.lists.specs.Lists.{element, member}
 use Rattle.lists.proofs.Members.{rising_below}
 use Rattle.lists.proofs.Stores.{listed_more, unlisted_more}
 use borrow.Author.Rules.{rules}

@@ -1,13 +1,9 @@
 -- `completion::scatter` meets its contract. Assumes nothing.
-use mathlib.Core.Path.{◌≡◌, refl}
+use mathlib.Core.Path.{◌≡◌}
 use Prim.Native.Nat.{ℕ, ◌-◌, ◌≤◌, ◌<◌}
-use native.Mathlib.Omega.{arith}
-use lib.ListN.{length, get_or, length-set}
+use lib.ListN.{length}
 use mathlib.Core.Bool.{false}
 use Rattle.lists.specs.Lists.{element, member}
-use Rattle.lists.proofs.Members.{rising_below}
-use Rattle.lists.proofs.Stores.{listed_more, unlisted_more}
-use borrow.Author.Rules.{rules}
 use Rattle.completion.proofs.scatter.Given as goal
 
 abbrev pub invariant-loop-j : goal.invariant-loop-j

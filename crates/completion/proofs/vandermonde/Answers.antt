@@ -1,12 +1,9 @@
 -- `completion::vandermonde` meets its contract. Assumes nothing.
-use mathlib.Core.Path.{◌≡◌}
-use mathlib.Core.List.{List, []}
-use Prim.Native.Nat.{ℕ, ◌-◌, ◌≤◌, ◌<◌}
+use mathlib.Core.List.{[]}
+use Prim.Native.Nat.{◌-◌}
 use native.Mathlib.Omega.{arith}
-use lib.ListN.{length, get_or, length-set}
-use Rattle.lists.specs.Lists.{element}
+use lib.ListN.{length-set}
 use Rattle.lists.proofs.Stores.{stored_more}
-use Rattle.column.specs.Solving.{most_entries, power_of}
 use borrow.Author.Rules.{rules}
 use Rattle.completion.proofs.vandermonde.Invariants.{Row}
 use Rattle.completion.proofs.vandermonde.Goals as goal

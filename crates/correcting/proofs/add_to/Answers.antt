@@ -1,7 +1,6 @@
 -- `correcting::add_to` meets its contract. Assumes nothing.
 use mathlib.Core.Path.{ap}
 use native.Mathlib.Omega.{arith}
-use borrow.Author.Rules.{rules}
 use lib.ListN.{set}
 use Rattle.correcting.proofs.add_to.Goals as goal
 

@@ -1,12 +1,10 @@
 -- `correcting::change_checks` meets its contract: one check node more. Assumes nothing.
 use mathlib.Core.Path.{◌≡◌}
-use Prim.Native.Nat.{◌+◌, ◌-◌, ◌*◌, ◌≤◌, ◌<◌}
+use Prim.Native.Nat.{◌+◌, ◌-◌, ◌*◌, ◌<◌}
 use native.Mathlib.Omega.{arith}
-use borrow.Author.Rules.{rules}
 use lib.Arith.{digits_lt}
 use Rattle.shape.specs.Shape.{most_nodes, size}
 use Rattle.shape.proofs.Accepted.{shape_accepted}
-use Rattle.correcting.specs.Steps.{Changed}
 use Rattle.correcting.proofs.Changing.{changed_none, changed_more}
 use Rattle.correcting.proofs.change_checks.Goals as goal
 use Rattle.correcting.proofs.change_checks.Goals.{At-loop-i}
@@ -31,8 +29,7 @@ add_to-requires c = omega (arith, room (goal.at.add_to-requires c).At-loop-i c.l
 pub loop-i-preserved : goal.loop-i-preserved
 loop-i-preserved c =
     let d = (goal.at.loop-i-preserved c).At-loop-i in
-    let l = d.loop-i in
-    (
+    let l = d.loop-i in (
       omega arith,
       omega arith,
       rw c.add_to.ensures

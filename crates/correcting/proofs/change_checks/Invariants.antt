@@ -1,13 +1,6 @@
 -- `correcting::change_checks` meets its contract: one check node more. Assumes nothing.
-use mathlib.Core.Path.{◌≡◌}
-use Prim.Native.Nat.{◌+◌, ◌-◌, ◌*◌, ◌≤◌, ◌<◌}
-use native.Mathlib.Omega.{arith}
-use borrow.Author.Rules.{rules}
-use lib.Arith.{digits_lt}
-use Rattle.shape.specs.Shape.{most_nodes, size}
-use Rattle.shape.proofs.Accepted.{shape_accepted}
+use Prim.Native.Nat.{◌-◌, ◌≤◌}
 use Rattle.correcting.specs.Steps.{Changed}
-use Rattle.correcting.proofs.Changing.{changed_none, changed_more}
 use Rattle.correcting.proofs.change_checks.Given as goal
 
 abbrev pub invariant-loop-i : goal.invariant-loop-i

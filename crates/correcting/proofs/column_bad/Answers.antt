@@ -1,21 +1,20 @@
 -- `correcting::column_bad` meets its contract: the symbols at the place, looked at one by one. Assumes nothing.
-use mathlib.Core.Path.{◌≡◌, ap, ◌∙◌}
+use mathlib.Core.Path.{ap, ◌∙◌}
 use mathlib.Core.Bool.{not, ◌&&◌, ◌||◌}
-use mathlib.Core.List.{List}
-use Prim.Native.Nat.{ℕ, ◌+◌, ◌-◌, ◌*◌, ◌≤◌, ◌<◌}
+use Prim.Native.Nat.{◌+◌, ◌-◌, ◌*◌, ◌<◌}
 use native.Mathlib.Omega.{arith}
 use borrow.Author.Rules.{rules}
 use lib.Arith.{digits_lt}
 use lib.Dec.{leb}
 use lib.ListN.{length, get_or, drop}
-use Rattle.lists.specs.Lists.{tabulate, all, below}
+use Rattle.lists.specs.Lists.{all, below}
 use Rattle.lists.proofs.Tables.{tabulate_length, tabulate_at}
 use Rattle.lists.proofs.Scans.{all_end}
 use Rattle.shape.specs.Refusals.{symbol_bad}
 use Rattle.shape.proofs.Symbols.{bad_more, bad_all}
 use Rattle.correcting.proofs.column_bad.Invariants.{held}
 use Rattle.correcting.proofs.column_bad.Goals as goal
-use Rattle.correcting.proofs.column_bad.Goals.{In-loop-i, Start}
+use Rattle.correcting.proofs.column_bad.Goals.{In-loop-i}
 
 -- the symbol that is read stands among the nodes
 room : (c : In-loop-i) →

@@ -1,6 +1,5 @@
 -- `correcting::correct` meets its contract: turned back by the judging, or corrected. Assumes nothing.
 use mathlib.Core.Path.{◌≡◌, sym, ap, ◌∙◌}
-use borrow.Author.Rules.{rules}
 use lib.ListN.{length}
 use mir.Facts.{to_z-of_z}
 use Rattle.shape.specs.Refusals.{answer_number}
@@ -10,7 +9,7 @@ use Rattle.correcting.specs.Correcting.{corrected, correct_refusal}
 use Rattle.correcting.proofs.Corrected.{corrected_length}
 use Rattle.correcting.proofs.Promised.{correct_accepted, corrects}
 use Rattle.correcting.proofs.correct.Goals as goal
-use Rattle.correcting.proofs.correct.Goals.{After-correct_all, After-judge_correct, In-Done, Start}
+use Rattle.correcting.proofs.correct.Goals.{After-correct_all, After-judge_correct, In-Done}
 
 -- what the judging says
 judged : (c : After-judge_correct) →

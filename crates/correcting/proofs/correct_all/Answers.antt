@@ -14,7 +14,7 @@ use Rattle.correcting.specs.Steps.{Changes}
 use Rattle.correcting.proofs.Signed.{change_accepted, residue_small}
 use Rattle.correcting.proofs.Assembled.{byte_inside, changed_corrected}
 use Rattle.correcting.proofs.correct_all.Goals as goal
-use Rattle.correcting.proofs.correct_all.Goals.{After-add_to, After-changes-by, After-residue, After-size-each, Start}
+use Rattle.correcting.proofs.correct_all.Goals.{After-changes-by, After-residue, After-size-each}
 
 positive : (c : After-size-each) → 0 < c.size-each.result
 positive c = rw c.size-each.ensures (shape_accepted _ c.requires.shape).size_low
@@ -54,8 +54,7 @@ shape_of-nodes c =
 
 pub returns : goal.returns
 returns c =
-    let d = (goal.at.returns c).After-changes-by in
-    (
+    let d = (goal.at.returns c).After-changes-by in (
       refl,
       changed_corrected d.args.s d.args.nodes.now d.args.byte d.args.change d.requires _ (changes_are d) _
           (rw (c.add_to.ensures, d.size-each.ensures) at c.change_checks.ensures),

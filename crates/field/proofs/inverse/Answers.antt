@@ -1,7 +1,6 @@
 -- The inverse modulo q: by Fermat, where q is a prime.
 use mathlib.Core.Path.{ap, ◌∙◌}
 use Prim.Native.Nat.{◌*◌, ◌%◌}
-use borrow.Author.Rules.{rules}
 use Rattle.field.specs.Residues.{inverse}
 use Rattle.field.proofs.Fields.{inverse_inverts}
 use Rattle.field.proofs.inverse.Goals as goal

@@ -1,5 +1,4 @@
 -- The product modulo q: that of two numbers of 32 bits fits 64.
-use borrow.Author.Rules.{rules}
 use native.Mathlib.Omega.{arith}
 use native.Mathlib.Nat.{mul-le-mul}
 use Rattle.field.proofs.multiply.Goals as goal

@@ -1,5 +1,4 @@
 -- The residue of a number: below the modulus, so it fits.
-use borrow.Author.Rules.{rules}
 use native.Mathlib.Omega.{arith}
 use mathlib.Core.Path.{refl}
 use native.Mathlib.Nat.{mod-lt}

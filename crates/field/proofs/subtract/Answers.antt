@@ -1,5 +1,4 @@
 -- The difference modulo q: the modulus is added before the subtraction.
-use borrow.Author.Rules.{rules}
 use native.Mathlib.Omega.{arith}
 use native.Mathlib.Nat.{mod-lt}
 use Rattle.field.specs.Residues.{minus}

@@ -3,9 +3,7 @@ use mathlib.Core.Path.{sym}
 use mathlib.Core.Bool.{true≢false}
 use native.Mathlib.Omega.{arith}
 use Rattle.shape.proofs.Accepted.{shape_accepted}
-use borrow.Author.Rules.{rules}
 use Rattle.filling.proofs.fill.Goals as goal
-use Rattle.filling.proofs.fill.Goals.{After-marks-marked, Start}
 
 pub marks-marked-requires : goal.marks-marked-requires
 marks-marked-requires c = omega (arith, (shape_accepted _ c.requires.0).n_high)

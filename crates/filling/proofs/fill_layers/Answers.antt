@@ -10,7 +10,7 @@ use Rattle.filling.specs.Filling.{Filled, InLayers}
 use Rattle.filling.proofs.Filling.{run_filled, layers_none, layers_more, still_fillable}
 use borrow.Author.Rules.{rules}
 use Rattle.filling.proofs.fill_layers.Goals as goal
-use Rattle.filling.proofs.fill_layers.Goals.{In-loop-layer, Start}
+use Rattle.filling.proofs.fill_layers.Goals.{In-loop-layer}
 
 pub two_to-two-requires : goal.two_to-two-requires
 two_to-two-requires c =

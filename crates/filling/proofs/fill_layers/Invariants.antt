@@ -1,14 +1,6 @@
 -- `filling::fill_layers` meets its contract. Assumes nothing.
-use mathlib.Core.Path.{◌≡◌, subst}
-use Prim.Native.Nat.{◌+◌, ◌-◌, ◌*◌, ◌^◌, ◌≤◌}
-use native.Mathlib.Nat.{mul-le-mul_right}
-use native.Mathlib.Omega.{arith}
-use lib.Pow.{pow_pos}
-use Rattle.shape.specs.Shape.{size}
-use Rattle.shape.proofs.Accepted.{shape_accepted, most_size}
+use Prim.Native.Nat.{◌-◌, ◌*◌, ◌^◌, ◌≤◌}
 use Rattle.filling.specs.Filling.{Filled, InLayers}
-use Rattle.filling.proofs.Filling.{run_filled, layers_none, layers_more, still_fillable}
-use borrow.Author.Rules.{rules}
 use Rattle.filling.proofs.fill_layers.Given as goal
 
 abbrev pub invariant-loop-layer : goal.invariant-loop-layer

@@ -7,7 +7,7 @@ use Rattle.filling.specs.Filling.{FilledRun}
 use Rattle.filling.proofs.Filling.{filled_run_none, filled_run_skip, filled_run_more, fill_summable, table_room, row_room}
 use borrow.Author.Rules.{rules}
 use Rattle.filling.proofs.fill_run.Goals as goal
-use Rattle.filling.proofs.fill_run.Goals.{After-sum_row-sums, Start}
+use Rattle.filling.proofs.fill_run.Goals.{After-sum_row-sums}
 
 pub loop-i-init : goal.loop-i-init
 loop-i-init c =
@@ -49,8 +49,7 @@ store-requires c =
 
 pub loop-i-preserved : goal.loop-i-preserved
 loop-i-preserved c =
-    let l = c.loop-i in
-    (
+    let l = c.loop-i in (
       search rules,
       filled_run_more _ _ _ _ _ _ _ c.requires.0 c.requires.3 l.i _ l.invariant.1 (omega arith) (sym (c.requires.1.each l.i (omega arith)) ∙ c.if-marked-i.false)
           _ _ c.sum_row-sums.ensures c.store.ensures,

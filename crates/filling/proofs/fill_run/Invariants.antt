@@ -1,11 +1,6 @@
 -- `filling::fill_run` meets its contract. Assumes nothing.
-use mathlib.Core.Path.{◌≡◌, sym, ◌∙◌, subst}
-use Prim.Native.Nat.{◌+◌, ◌-◌, ◌*◌, ◌≤◌}
-use native.Mathlib.Omega.{arith}
-use lib.ListN.{length}
+use Prim.Native.Nat.{◌-◌, ◌≤◌}
 use Rattle.filling.specs.Filling.{FilledRun}
-use Rattle.filling.proofs.Filling.{filled_run_none, filled_run_skip, filled_run_more, fill_summable, table_room, row_room}
-use borrow.Author.Rules.{rules}
 use Rattle.filling.proofs.fill_run.Given as goal
 
 abbrev pub invariant-loop-i : goal.invariant-loop-i

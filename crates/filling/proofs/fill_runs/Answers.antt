@@ -1,21 +1,16 @@
 -- `filling::fill_runs` meets its contract. Assumes nothing.
 use mathlib.Core.Path.{◌≡◌, refl, sym, ap, ◌∙◌}
-use Prim.Native.Nat.{ℕ, ◌*◌, ◌+◌, ◌-◌, ◌/◌, ◌<◌, ◌^◌, ◌≤◌}
-use native.Mathlib.Nat.{mul-le-mul_right, div-le_self}
+use Prim.Native.Nat.{◌*◌, ◌-◌, ◌/◌}
+use native.Mathlib.Nat.{div-le_self}
 use native.Mathlib.Omega.{arith}
-use lib.ListN.{length}
 use lib.Pow.{pow_pos}
 use Rattle.shape.specs.Shape.{size}
 use Rattle.shape.proofs.Accepted.{shape_accepted}
-use Rattle.code.specs.Code.{narrow}
-use Rattle.rows.specs.Rows.{Low}
 use Rattle.rows.proofs.Rows.{low_replicate}
 use Rattle.tables.specs.Tables.{table_size}
-use Rattle.filling.specs.Filling.{Filled, Below}
 use Rattle.filling.proofs.Filling.{block_room, blocks_none, blocks_more, blocks_end, still_fillable}
 use borrow.Author.Rules.{rules}
 use Rattle.filling.proofs.fill_runs.Goals as goal
-use Rattle.filling.proofs.fill_runs.Goals.{In-loop-block, Start}
 
 pub two_to-two-requires : goal.two_to-two-requires
 two_to-two-requires c =
@@ -44,8 +39,7 @@ slice_bounds-fill_layers-end c =
 pub fill_layers-requires : goal.fill_layers-requires
 unfolding size
 fill_layers-requires c =
-    let l = c.loop-block in
-    (
+    let l = c.loop-block in (
       c.requires.0,
       still_fillable _ _ _ _ _ _ c.requires.1 l.invariant.4,
       c.requires.2,

@@ -1,19 +1,11 @@
 -- `filling::fill_runs` meets its contract. Assumes nothing.
-use mathlib.Core.Path.{◌≡◌, refl, sym, ap, ◌∙◌}
-use Prim.Native.Nat.{◌+◌, ◌-◌, ◌*◌, ◌/◌, ◌^◌, ◌≤◌}
-use native.Mathlib.Nat.{mul-le-mul_right, div-le_self}
-use native.Mathlib.Omega.{arith}
+use mathlib.Core.Path.{◌≡◌}
+use Prim.Native.Nat.{◌-◌, ◌*◌, ◌/◌, ◌^◌, ◌≤◌}
 use lib.ListN.{length}
-use lib.Pow.{pow_pos}
-use Rattle.shape.specs.Shape.{size}
-use Rattle.shape.proofs.Accepted.{shape_accepted}
 use Rattle.code.specs.Code.{narrow}
 use Rattle.rows.specs.Rows.{Low}
-use Rattle.rows.proofs.Rows.{low_replicate}
 use Rattle.tables.specs.Tables.{table_size}
 use Rattle.filling.specs.Filling.{Filled, Below}
-use Rattle.filling.proofs.Filling.{blocks_none, blocks_more, blocks_end, still_fillable}
-use borrow.Author.Rules.{rules}
 use Rattle.filling.proofs.fill_runs.Given as goal
 
 abbrev pub invariant-loop-block : goal.invariant-loop-block

@@ -1,13 +1,11 @@
 -- `filling::sum_row` meets its contract. Assumes nothing.
 use mathlib.Core.Path.{◌≡◌, refl}
-use Prim.Native.Nat.{◌-◌, ◌≤◌}
+use Prim.Native.Nat.{◌-◌}
 use native.Mathlib.Omega.{arith}
 use lib.ListN.{length}
-use Rattle.filling.specs.Filling.{Summed}
 use Rattle.filling.proofs.Summing.{summed_none, sum_fits, summed_more}
 use borrow.Author.Rules.{rules}
 use Rattle.filling.proofs.sum_row.Goals as goal
-use Rattle.filling.proofs.sum_row.Goals.{Start}
 
 pub loop-j-init : goal.loop-j-init
 loop-j-init c =
@@ -37,8 +35,7 @@ overflow_add-rows c =
 
 pub add_products-requires : goal.add_products-requires
 add_products-requires c =
-    let l = c.loop-j in
-    (
+    let l = c.loop-j in (
       c.requires.few,
       omega (arith, c.requires.room, c.requires.few),
       c.requires.inside l.j (omega arith),

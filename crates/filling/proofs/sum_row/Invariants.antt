@@ -1,11 +1,8 @@
 -- `filling::sum_row` meets its contract. Assumes nothing.
-use mathlib.Core.Path.{◌≡◌, refl}
+use mathlib.Core.Path.{◌≡◌}
 use Prim.Native.Nat.{◌-◌, ◌≤◌}
-use native.Mathlib.Omega.{arith}
 use lib.ListN.{length}
 use Rattle.filling.specs.Filling.{Summed}
-use Rattle.filling.proofs.Summing.{summed_none, sum_fits, summed_more}
-use borrow.Author.Rules.{rules}
 use Rattle.filling.proofs.sum_row.Given as goal
 
 abbrev pub invariant-loop-j : goal.invariant-loop-j

@@ -1,15 +1,15 @@
 -- `inverting::invert` meets its contract: the last element first. Assumes nothing.
 use mathlib.Core.Path.{◌≡◌, sym, ap, ◌∙◌}
-use Prim.Native.Nat.{ℕ, ◌+◌, ◌-◌, ◌*◌, ◌%◌, ◌≤◌, ◌<◌}
+use Prim.Native.Nat.{◌+◌, ◌-◌, ◌*◌, ◌%◌, ◌<◌}
 use native.Mathlib.Omega.{arith}
 use borrow.Author.Rules.{rules}
 use lib.ListN.{length}
 use lib.Seq.{get_or-set_other}
 use Rattle.lists.specs.Lists.{element}
-use Rattle.inverting.specs.Inverses.{product, Pivots, Inverted}
+use Rattle.inverting.specs.Inverses.{product, Pivots}
 use Rattle.inverting.proofs.Inverses.{product_small, product_nonzero, inverts_pivot, inverts_rest, inverted_none, inverted_more}
 use Rattle.inverting.proofs.invert.Goals as goal
-use Rattle.inverting.proofs.invert.Goals.{After-multiply, After-products, In-loop-i, Start}
+use Rattle.inverting.proofs.invert.Goals.{In-loop-i}
 
 pub loop-i-init : goal.loop-i-init
 loop-i-init c =

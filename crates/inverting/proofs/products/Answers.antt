@@ -1,13 +1,12 @@
 -- `inverting::products` meets its contract: one element more at a time. Assumes nothing.
 use mathlib.Core.Path.{◌≡◌, refl}
-use Prim.Native.Nat.{◌-◌, ◌≤◌, ◌<◌}
+use Prim.Native.Nat.{◌<◌}
 use native.Mathlib.Omega.{arith}
 use borrow.Author.Rules.{rules}
 use lib.ListN.{length}
-use Rattle.inverting.specs.Inverses.{Products}
 use Rattle.inverting.proofs.Inverses.{products_none, products_more}
 use Rattle.inverting.proofs.products.Goals as goal
-use Rattle.inverting.proofs.products.Goals.{In-loop-i, Start}
+use Rattle.inverting.proofs.products.Goals.{In-loop-i}
 
 pub loop-i-init : goal.loop-i-init
 loop-i-init c = (search rules, refl, products_none _ _ _)

@@ -1,11 +1,8 @@
 -- `inverting::products` meets its contract: one element more at a time. Assumes nothing.
-use mathlib.Core.Path.{◌≡◌, refl}
-use Prim.Native.Nat.{◌-◌, ◌≤◌, ◌<◌}
-use native.Mathlib.Omega.{arith}
-use borrow.Author.Rules.{rules}
+use mathlib.Core.Path.{◌≡◌}
+use Prim.Native.Nat.{◌-◌, ◌≤◌}
 use lib.ListN.{length}
 use Rattle.inverting.specs.Inverses.{Products}
-use Rattle.inverting.proofs.Inverses.{products_none, products_more}
 use Rattle.inverting.proofs.products.Given as goal
 
 abbrev pub invariant-loop-i : goal.invariant-loop-i

@@ -7,7 +7,7 @@ use native.Mathlib.Nat.{mul-le-mul_right, suc-mul, mul-le-mul}
 use native.Mathlib.Omega.{arith}
 use borrow.Author.Rules.{rules}
 use lib.ListN.{length, get_or, take, drop}
-use Rattle.lists.specs.Lists.{all, below, piece}
+use Rattle.lists.specs.Lists.{all, piece}
 use Rattle.lists.proofs.Buffers.{part_of}
 use Rattle.lists.proofs.Members.{rising_below}
 use Rattle.lists.proofs.Scans.{all_pass, all_fail, all_end}
@@ -19,7 +19,7 @@ use Rattle.code.specs.Code.{narrow}
 use Rattle.judging.specs.Refusals.{node_good}
 use Rattle.judging.proofs.helpers_bad.Invariants.{good}
 use Rattle.judging.proofs.helpers_bad.Goals as goal
-use Rattle.judging.proofs.helpers_bad.Goals.{In-loop-j, Start}
+use Rattle.judging.proofs.helpers_bad.Goals.{In-loop-j}
 
 pub loop-j-init : goal.loop-j-init
 loop-j-init c = (search rules, refl)
@@ -55,11 +55,11 @@ back true t e = ap not (sym e)
 back false t e = ap not (sym e)
 
 tells : (full i : ℕ) (nodes : List ℕ) (t : Bool) → t ≡ symbol_bad narrow.modulus (take (i * full + full - i * full) (drop (i * full) nodes)) → good full nodes i ≡ not t
-unfolding good symbol_bad piece
+unfolding symbol_bad piece
 tells full i nodes t e = back _ t (rw (part_of (i * full) full nodes) at e)
 
 same : (s : Shape) (nodes helpers : List ℕ) (full : ℕ) → full ≡ size s → all (node_good narrow s nodes) helpers ≡ all (good full nodes) helpers
-unfolding node_good good
+unfolding node_good
 same s nodes helpers full e = rw e refl
 
 pub returns-then-symbol_bad : goal.returns-then-symbol_bad

@@ -1,22 +1,11 @@
 -- `judging::helpers_bad` meets its contract: all symbols of the helpers passed are good. Assumes nothing.
-use mathlib.Core.Path.{◌≡◌, refl, sym, ap, ◌∙◌}
-use mathlib.Core.Bool.{Bool, not, true, false}
+use mathlib.Core.Path.{◌≡◌}
+use mathlib.Core.Bool.{Bool}
 use mathlib.Core.List.{List}
-use Prim.Native.Nat.{ℕ, ◌+◌, ◌-◌, ◌*◌, ◌≤◌}
-use native.Mathlib.Nat.{mul-le-mul_right, suc-mul, mul-le-mul}
-use native.Mathlib.Omega.{arith}
-use borrow.Author.Rules.{rules}
-use lib.ListN.{length, get_or, take, drop}
+use Prim.Native.Nat.{ℕ, ◌-◌, ◌≤◌}
+use lib.ListN.{length, drop}
 use Rattle.lists.specs.Lists.{all, below, piece}
-use Rattle.lists.proofs.Buffers.{part_of}
-use Rattle.lists.proofs.Members.{rising_below}
-use Rattle.lists.proofs.Scans.{all_pass, all_fail, all_end}
-use Rattle.shape.specs.declared.Shape.{Shape}
-use Rattle.shape.specs.Shape.{size, most_nodes}
-use Rattle.shape.specs.Refusals.{symbol_bad}
-use Rattle.shape.proofs.Accepted.{shape_accepted, most_size}
 use Rattle.code.specs.Code.{narrow}
-use Rattle.judging.specs.Refusals.{node_good}
 use Rattle.judging.proofs.helpers_bad.Given as goal
 
 -- the symbols of node i are good, with this many symbols a node

@@ -2,7 +2,6 @@
 use mathlib.Core.Path.{◌≡◌, sym, ◌∙◌}
 use mathlib.Core.Bool.{false}
 use native.Mathlib.Omega.{arith}
-use borrow.Author.Rules.{rules}
 use Rattle.shape.specs.Refusals.{shape_bad}
 use Rattle.lists.proofs.Tests.{neither}
 use Rattle.shape.proofs.Accepted.{shape_accepted, repair_accepted}

@@ -1,13 +1,11 @@
 -- `judging::judge_message` meets its contract: causes 1 to 3, the lengths, then the symbols. Assumes nothing.
 use mathlib.Core.Path.{sym, ◌∙◌}
-use borrow.Author.Rules.{rules}
 use Rattle.lists.specs.Lists.{outside}
 use Rattle.shape.specs.Refusals.{wrong_length}
 use Rattle.classes.specs.Classes.{message_size}
 use Rattle.judging.specs.Refusals.{message_refusal}
 use Rattle.judging.proofs.Judged.{judged_stop, judged_listed, judged_length, judged_symbols, judged_done}
 use Rattle.judging.proofs.judge_message.Goals as goal
-use Rattle.judging.proofs.judge_message.Goals.{After-judge_lists-lists}
 
 pub returns-in_default : goal.returns-in_default
 unfolding message_refusal outside

@@ -3,7 +3,6 @@ use mathlib.Core.Path.{sym, ap₂, ◌∙◌}
 use mathlib.Core.Bool.{not, ◌||◌}
 use Prim.Native.Nat.{◌-◌, ◌≤◌, ◌*◌}
 use native.Mathlib.Omega.{arith}
-use borrow.Author.Rules.{rules}
 use lib.ListN.{length}
 use Rattle.lists.specs.Lists.{outside}
 use Rattle.shape.specs.Refusals.{wrong_length}
@@ -12,7 +11,7 @@ use Rattle.classes.specs.Classes.{message_size}
 use Rattle.judging.specs.Refusals.{second_step_refusal}
 use Rattle.judging.proofs.Judged.{Listed, small, share_fits, judged_stop, judged_listed, judged_length, judged_symbols, judged_done}
 use Rattle.judging.proofs.judge_second.Goals as goal
-use Rattle.judging.proofs.judge_second.Goals.{After-judge_lists-lists, In-Done}
+use Rattle.judging.proofs.judge_second.Goals.{In-Done}
 
 pub returns-in_default : goal.returns-in_default
 unfolding second_step_refusal outside

@@ -2,13 +2,12 @@
 use mathlib.Core.Path.{sym, ◌∙◌}
 use Prim.Native.Nat.{◌+◌, ◌*◌, ◌-◌, ◌<◌}
 use native.Mathlib.Omega.{arith}
-use borrow.Author.Rules.{rules}
 use Rattle.lists.proofs.Tests.{cond_true, cond_false}
 use Rattle.shape.specs.Shape.{byte_values}
-use Rattle.numbers.specs.Numbers.{most_groups, group_values}
+use Rattle.numbers.specs.Numbers.{group_values}
 use Rattle.numbers.proofs.Groups.{Reading, reading_first, reading_fits, reading_long, reading_cut, reading_last, reading_next}
 use Rattle.numbers.proofs.read_groups.Goals as goal
-use Rattle.numbers.proofs.read_groups.Goals.{After-wide-b, At-loop-groups, Else-b-lt-GROUP_VALUES}
+use Rattle.numbers.proofs.read_groups.Goals.{After-wide-b, Else-b-lt-GROUP_VALUES}
 
 pub loop-groups-init : goal.loop-groups-init
 loop-groups-init c = reading_first _ _

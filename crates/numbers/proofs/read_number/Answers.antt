@@ -3,8 +3,6 @@ use mathlib.Core.Path.{refl, sym}
 use Prim.Native.Nat.{◌+◌, ◌*◌, ◌/◌, ◌≤◌, ◌<◌}
 use native.Mathlib.Nat.{mul-le-mul}
 use native.Mathlib.Omega.{arith}
-use borrow.Author.Rules.{rules}
-use borrow.Author.Tests.{ltb-true}
 use Rattle.shape.specs.Shape.{byte_values}
 use Rattle.numbers.specs.Numbers.{most_groups, group_values}
 use Rattle.numbers.proofs.Groups.{at_cut, read_two}

@@ -1,12 +1,7 @@
 -- `numbers::write_number` meets its contract: the numeral of the rest is still to be written, at the place.
-use mathlib.Core.Path.{refl}
-use mathlib.Core.List.{[]}
-use Prim.Native.Nat.{◌-◌, ◌^◌, ◌<◌}
-use native.Mathlib.Omega.{arith}
-use borrow.Author.Rules.{rules}
-use Rattle.lists.proofs.Writing.{Writing, writing_all, writing_next, writing_room, writing_end}
+use Prim.Native.Nat.{◌^◌, ◌<◌}
+use Rattle.lists.proofs.Writing.{Writing}
 use Rattle.numbers.specs.Numbers.{most_groups, group_values, numeral}
-use Rattle.numbers.proofs.Numbers.{numeral_one, numeral_some, numeral_next}
 use Rattle.numbers.proofs.write_number.Given as goal
 
 abbrev pub invariant-loop-rest : goal.invariant-loop-rest

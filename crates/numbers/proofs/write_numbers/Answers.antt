@@ -1,10 +1,10 @@
 -- `numbers::write_numbers` meets its contract: the numerals from number i on are still to be written.
-use Prim.Native.Nat.{◌-◌, ◌≤◌, ◌<◌}
+use Prim.Native.Nat.{◌<◌}
 use native.Mathlib.Omega.{arith}
 use borrow.Author.Rules.{rules}
 use lib.ListN.{length}
 use Rattle.lists.proofs.Tests.{all_below_at}
-use Rattle.numbers.proofs.Numerals.{Numerals, numerals_all, numerals_room, numerals_next, numerals_end}
+use Rattle.numbers.proofs.Numerals.{numerals_all, numerals_room, numerals_next, numerals_end}
 use Rattle.numbers.proofs.write_numbers.Goals as goal
 
 pub loop-i-init : goal.loop-i-init

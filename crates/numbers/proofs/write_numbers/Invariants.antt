@@ -1,10 +1,7 @@
 -- `numbers::write_numbers` meets its contract: the numerals from number i on are still to be written.
-use Prim.Native.Nat.{◌-◌, ◌≤◌, ◌<◌}
-use native.Mathlib.Omega.{arith}
-use borrow.Author.Rules.{rules}
+use Prim.Native.Nat.{◌-◌, ◌≤◌}
 use lib.ListN.{length}
-use Rattle.lists.proofs.Tests.{all_below_at}
-use Rattle.numbers.proofs.Numerals.{Numerals, numerals_all, numerals_room, numerals_next, numerals_end}
+use Rattle.numbers.proofs.Numerals.{Numerals}
 use Rattle.numbers.proofs.write_numbers.Given as goal
 
 abbrev pub invariant-loop-i : goal.invariant-loop-i

@@ -1,9 +1,9 @@
 -- `numbers::write_symbols` meets its contract: the numerals from symbol i on are still to be written.
-use Prim.Native.Nat.{◌-◌, ◌≤◌, ◌<◌}
+use Prim.Native.Nat.{◌<◌}
 use native.Mathlib.Omega.{arith}
 use borrow.Author.Rules.{rules}
 use lib.ListN.{length}
-use Rattle.numbers.proofs.Numerals.{Numerals, numerals_all, numerals_room, numerals_next, numerals_end}
+use Rattle.numbers.proofs.Numerals.{numerals_all, numerals_room, numerals_next, numerals_end}
 use Rattle.numbers.proofs.write_symbols.Goals as goal
 
 pub loop-i-init : goal.loop-i-init

@@ -1,9 +1,7 @@
 -- `numbers::write_symbols` meets its contract: the numerals from symbol i on are still to be written.
-use Prim.Native.Nat.{◌-◌, ◌≤◌, ◌<◌}
-use native.Mathlib.Omega.{arith}
-use borrow.Author.Rules.{rules}
+use Prim.Native.Nat.{◌-◌, ◌≤◌}
 use lib.ListN.{length}
-use Rattle.numbers.proofs.Numerals.{Numerals, numerals_all, numerals_room, numerals_next, numerals_end}
+use Rattle.numbers.proofs.Numerals.{Numerals}
 use Rattle.numbers.proofs.write_symbols.Given as goal
 
 abbrev pub invariant-loop-i : goal.invariant-loop-i

@@ -2,14 +2,11 @@
 use mathlib.Core.Path.{sym}
 use Prim.Native.Nat.{◌+◌, ◌<◌}
 use native.Mathlib.Omega.{arith}
-use borrow.Author.Tests.{not-true, not-false}
-use borrow.Author.Rules.{rules}
 use lib.Seq.{length-take-le, get_or-take}
 use lib.ListN.{length}
 use Rattle.code.proofs.Opening.{fits_byte}
 use Rattle.opening.proofs.Judged.{copy_turned_back, data_copied}
 use Rattle.opening.proofs.copy_data.Goals as goal
-use Rattle.opening.proofs.copy_data.Goals.{Start}
 
 pub returns-then-not-row_fits : goal.returns-then-not-row_fits
 returns-then-not-row_fits c = λ s list input last. copy_turned_back s list _ _ input last (c.row_fits.ensures.not_each c.if-not-row_fits.true)

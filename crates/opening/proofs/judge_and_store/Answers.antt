@@ -1,6 +1,5 @@
 -- `opening::judge_and_store` meets its contract. Assumes nothing.
 use native.Mathlib.Omega.{arith}
-use borrow.Author.Tests.{not-true, not-false}
 use borrow.Author.Rules.{rules}
 use Rattle.opening.proofs.Judged.{readable, turned_back, judged_stored}
 use Rattle.opening.proofs.judge_and_store.Goals as goal

@@ -3,12 +3,11 @@ use mathlib.Core.Path.{◌≡◌, sym, ◌∙◌}
 use mathlib.Core.Bool.{false}
 use native.Mathlib.Omega.{arith}
 use native.Mathlib.Nat.{mul-le-mul}
-use borrow.Author.Rules.{rules}
 use Rattle.shape.specs.Refusals.{shape_bad, wrong_length}
 use Rattle.shape.proofs.Accepted.{shape_accepted}
 use Rattle.code.specs.Refusals.{open_input_refusal}
 use Rattle.opening.proofs.judge_open.Goals as goal
-use Rattle.opening.proofs.judge_open.Goals.{After-size, Else-shape_bad, Else-symbols-due}
+use Rattle.opening.proofs.judge_open.Goals.{Else-shape_bad}
 
 pub returns-then-shape_bad : goal.returns-then-shape_bad
 unfolding open_input_refusal

@@ -1,7 +1,6 @@
 -- `opening::open` meets its contract. Assumes nothing.
 use mathlib.Core.Path.{◌≡◌, sym, ap, ◌∙◌}
 use native.Mathlib.Omega.{arith}
-use borrow.Author.Rules.{rules}
 use lib.ListN.{length}
 use Rattle.shape.proofs.Answers.{number_positive}
 use Rattle.shape.specs.Refusals.{answer_number}

@@ -4,7 +4,6 @@ use mathlib.Core.Path.{◌≡◌, sym, ◌∙◌, subst}
 use Prim.Native.Nat.{◌+◌, ◌*◌, ◌-◌, ◌^◌, ◌≤◌}
 use native.Mathlib.Omega.{arith}
 use native.Mathlib.Nat.{mul-le-mul_right}
-use borrow.Author.Tests.{not-true, not-false}
 use borrow.Author.Rules.{rules}
 use Rattle.shape.proofs.Accepted.{shape_accepted, most_size}
 use Rattle.shape.specs.Shape.{size}
@@ -12,7 +11,7 @@ use Rattle.opening.specs.Steps.{opened, Walked, OneOf, AtLayer}
 use Rattle.opening.proofs.Places.{table_factors}
 use Rattle.opening.proofs.Walking.{walked_none, walked_on, walked_ends}
 use Rattle.opening.proofs.open_layers.Goals as goal
-use Rattle.opening.proofs.open_layers.Goals.{In-loop-layer, Start}
+use Rattle.opening.proofs.open_layers.Goals.{In-loop-layer}
 
 pub two_to-two-requires : goal.two_to-two-requires
 two_to-two-requires c = (shape_accepted _ c.requires.0.shape).n_high

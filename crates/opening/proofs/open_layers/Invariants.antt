@@ -1,16 +1,7 @@
 -- `opening::open_layers` meets its contract. Assumes nothing.
 use mathlib.Core.Bool.{true}
-use mathlib.Core.Path.{◌≡◌, sym, ◌∙◌, subst}
-use Prim.Native.Nat.{◌+◌, ◌*◌, ◌-◌, ◌^◌, ◌≤◌}
-use native.Mathlib.Omega.{arith}
-use native.Mathlib.Nat.{mul-le-mul_right}
-use borrow.Author.Tests.{not-true, not-false}
-use borrow.Author.Rules.{rules}
-use Rattle.shape.proofs.Accepted.{shape_accepted, most_size}
-use Rattle.shape.specs.Shape.{size}
+use Prim.Native.Nat.{◌-◌, ◌≤◌}
 use Rattle.opening.specs.Steps.{opened, Walked, OneOf, AtLayer}
-use Rattle.opening.proofs.Places.{table_factors}
-use Rattle.opening.proofs.Walking.{walked_none, walked_on, walked_ends}
 use Rattle.opening.proofs.open_layers.Given as goal
 
 abbrev pub invariant-loop-layer : goal.invariant-loop-layer

@@ -4,7 +4,6 @@ use mathlib.Core.Path.{◌≡◌, refl, ◌∙◌, subst}
 use Prim.Native.Nat.{◌+◌, ◌-◌, ◌*◌, ◌≤◌, ◌<◌}
 use native.Mathlib.Omega.{arith}
 use native.Mathlib.Nat.{mul-le-mul, mul-le-mul_right}
-use borrow.Author.Tests.{not-true, not-false}
 use borrow.Author.Rules.{rules}
 use lib.ListN.{length, get_or}
 use Rattle.shape.specs.Shape.{size, most_nodes}
@@ -13,7 +12,7 @@ use Rattle.opening.specs.Steps.{opened, Walked, OneOf, OfListed}
 use Rattle.opening.proofs.Places.{listed_walked}
 use Rattle.opening.proofs.Walking.{walked_none, walked_skip, walked_on, walked_ends}
 use Rattle.opening.proofs.open_listed.Goals as goal
-use Rattle.opening.proofs.open_listed.Goals.{After-open_row, Else-s-node, In-loop-j, Start}
+use Rattle.opening.proofs.open_listed.Goals.{After-open_row, Else-s-node, In-loop-j}
 
 -- there are k listed nodes
 below : (c : In-loop-j) → c.loop-j.j < c.args.s.k

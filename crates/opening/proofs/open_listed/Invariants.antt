@@ -1,17 +1,9 @@
 -- `opening::open_listed` meets its contract. Assumes nothing.
 use mathlib.Core.Bool.{true}
-use mathlib.Core.Path.{◌≡◌, refl, ◌∙◌, subst}
-use Prim.Native.Nat.{◌+◌, ◌-◌, ◌*◌, ◌≤◌, ◌<◌}
-use native.Mathlib.Omega.{arith}
-use native.Mathlib.Nat.{mul-le-mul, mul-le-mul_right}
-use borrow.Author.Tests.{not-true, not-false}
-use borrow.Author.Rules.{rules}
-use lib.ListN.{length, get_or}
-use Rattle.shape.specs.Shape.{size, most_nodes}
-use Rattle.shape.proofs.Accepted.{shape_accepted, most_size}
+use mathlib.Core.Path.{◌≡◌}
+use Prim.Native.Nat.{◌-◌, ◌≤◌}
+use lib.ListN.{length}
 use Rattle.opening.specs.Steps.{opened, Walked, OneOf, OfListed}
-use Rattle.opening.proofs.Places.{listed_walked}
-use Rattle.opening.proofs.Walking.{walked_none, walked_skip, walked_on, walked_ends}
 use Rattle.opening.proofs.open_listed.Given as goal
 
 abbrev pub invariant-loop-j : goal.invariant-loop-j

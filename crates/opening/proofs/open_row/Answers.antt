@@ -2,13 +2,10 @@
 use mathlib.Core.Path.{sym}
 use Prim.Native.Nat.{◌<◌}
 use native.Mathlib.Omega.{arith}
-use borrow.Author.Tests.{not-true, not-false}
-use borrow.Author.Rules.{rules}
 use lib.Seq.{length-take-le, get_or-take}
 use Rattle.code.proofs.Opening.{fits_byte}
 use Rattle.opening.proofs.Walking.{row_misfit, row_walked}
 use Rattle.opening.proofs.open_row.Goals as goal
-use Rattle.opening.proofs.open_row.Goals.{Start}
 
 pub returns-then-not-row_fits : goal.returns-then-not-row_fits
 returns-then-not-row_fits c =

@@ -4,7 +4,6 @@ use mathlib.Core.Path.{◌≡◌, sym, ◌∙◌, subst}
 use Prim.Native.Nat.{◌+◌, ◌-◌, ◌*◌, ◌≤◌}
 use native.Mathlib.Omega.{arith}
 use native.Mathlib.Nat.{mul-le-mul}
-use borrow.Author.Tests.{not-true, not-false}
 use borrow.Author.Rules.{rules}
 use lib.Seq.{length-take-le, get_or-take}
 use lib.ListN.{length, get_or, take}
@@ -18,7 +17,7 @@ use Rattle.opening.specs.Steps.{opened, Walked, OneOf, AtRun}
 use Rattle.opening.proofs.Places.{row_opened}
 use Rattle.opening.proofs.Walking.{walked_as, walked_none, walked_skip, walked_on, walked_ends}
 use Rattle.opening.proofs.open_run.Goals as goal
-use Rattle.opening.proofs.open_run.Goals.{After-open_row, In-loop-i, Start}
+use Rattle.opening.proofs.open_run.Goals.{After-open_row, In-loop-i}
 
 -- a flag says whether a node is listed
 flagged : (c : In-loop-i) → let a = c.args in get_or a.marked c.loop-i.i false ≡ member c.loop-i.i a.list.now

@@ -1,23 +1,18 @@
 -- `opening::open_runs` meets its contract. Assumes nothing.
 use mathlib.Core.Bool.{true, false, false≢true}
 use mathlib.Core.Path.{◌≡◌, refl, sym, ap, ◌∙◌}
-use Prim.Native.Nat.{◌+◌, ◌*◌, ◌/◌, ◌-◌, ◌^◌, ◌≤◌}
+use Prim.Native.Nat.{◌/◌, ◌-◌, ◌^◌}
 use native.Mathlib.Omega.{arith}
-use native.Mathlib.Nat.{mul-le-mul_right, div-le_self}
-use borrow.Author.Tests.{not-true, not-false}
+use native.Mathlib.Nat.{div-le_self}
 use borrow.Author.Rules.{rules}
-use lib.ListN.{length}
 use Rattle.shape.proofs.Accepted.{shape_accepted}
 use Rattle.rows.proofs.Rows.{low_replicate}
-use Rattle.rows.specs.Rows.{Low}
-use Rattle.code.specs.Code.{narrow}
 use Rattle.tables.specs.Tables.{table_size}
-use Rattle.opening.specs.Steps.{opened, Walked, OneOf, AtBlock, Missing}
+use Rattle.opening.specs.Steps.{OneOf, AtBlock, Missing}
 use Rattle.opening.proofs.Places.{all_walked, walked_all}
 use Rattle.opening.proofs.Walking.{walked_none, walked_on, walked_ends, walked_as}
 use Rattle.filling.proofs.Filling.{block_room}
 use Rattle.opening.proofs.open_runs.Goals as goal
-use Rattle.opening.proofs.open_runs.Goals.{Start}
 
 pub two_to-two-requires : goal.two_to-two-requires
 two_to-two-requires c = (shape_accepted _ c.requires.0.shape).n_high

@@ -1,6 +1,5 @@
 -- `opening::row_fits` meets its contract. Assumes nothing.
 use mathlib.Core.Path.{sym}
-use borrow.Author.Rules.{rules}
 use lib.Seq.{length-take-le}
 use Rattle.opening.proofs.Fitting.{row_judged}
 use Rattle.opening.proofs.row_fits.Goals as goal

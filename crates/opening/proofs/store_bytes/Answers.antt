@@ -1,12 +1,10 @@
 -- `opening::store_bytes` meets its contract. Assumes nothing.
 use mathlib.Core.Path.{◌≡◌, refl}
-use Prim.Native.Nat.{◌-◌, ◌≤◌}
+use Prim.Native.Nat.{◌-◌}
 use native.Mathlib.Omega.{arith}
 use borrow.Author.Rules.{rules}
 use lib.ListN.{length}
-use Rattle.lists.specs.Lists.{element}
 use Rattle.rows.proofs.Rows.{stored_none, stored_more}
-use Rattle.rows.specs.Rows.{Stored}
 use Rattle.opening.proofs.store_bytes.Goals as goal
 
 pub loop-t-init : goal.loop-t-init

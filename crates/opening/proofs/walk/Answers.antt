@@ -1,7 +1,6 @@
 -- `opening::walk` meets its contract. Assumes nothing.
 use mathlib.Core.Path.{◌∙◌}
 use native.Mathlib.Omega.{arith}
-use borrow.Author.Tests.{not-true, not-false}
 use Rattle.opening.proofs.Places.{listed_misfit, both_walked}
 use Rattle.opening.proofs.walk.Goals as goal
 

@@ -1,11 +1,9 @@
 -- `ordering::all_sent` meets its contract: all helpers have sent where all that are left have. Assumes nothing.
-use mathlib.Core.Path.{◌≡◌, refl, sym, ◌∙◌}
-use Prim.Native.Nat.{◌≤◌, ◌<◌, ◌-◌}
+use mathlib.Core.Path.{refl, sym, ◌∙◌}
+use Prim.Native.Nat.{◌<◌, ◌-◌}
 use native.Mathlib.Omega.{arith}
 use borrow.Author.Rules.{rules}
-use borrow.Author.Tests.{not-true, not-false}
-use lib.ListN.{length, get_or, drop}
-use Rattle.lists.specs.Lists.{all}
+use lib.ListN.{get_or}
 use Rattle.lists.proofs.Scans.{all_pass, all_fail, all_end}
 use Rattle.shape.specs.Shape.{most_nodes}
 use Rattle.ordering.specs.Following.{by_table, sent_to}
@@ -23,7 +21,7 @@ pub overflow_add-helpers : goal.overflow_add-helpers
 overflow_add-helpers c = omega (arith, low c)
 
 pub bounds-sent-helpers : goal.bounds-sent-helpers
-bounds-sent-helpers c = omega (arith, low c)
+bounds-sent-helpers c = omega (arith, low (goal.at.bounds-sent-helpers c).After-shared_slice_known-1)
 
 pub returns-then-not-sent-helpers : goal.returns-then-not-sent-helpers
 unfolding sent_to by_table

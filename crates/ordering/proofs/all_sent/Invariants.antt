@@ -1,13 +1,8 @@
 -- `ordering::all_sent` meets its contract: all helpers have sent where all that are left have. Assumes nothing.
-use mathlib.Core.Path.{◌≡◌, refl, sym, ◌∙◌}
-use Prim.Native.Nat.{◌≤◌, ◌<◌, ◌-◌}
-use native.Mathlib.Omega.{arith}
-use borrow.Author.Rules.{rules}
-use borrow.Author.Tests.{not-true, not-false}
-use lib.ListN.{length, get_or, drop}
+use mathlib.Core.Path.{◌≡◌}
+use Prim.Native.Nat.{◌≤◌, ◌-◌}
+use lib.ListN.{length, drop}
 use Rattle.lists.specs.Lists.{all}
-use Rattle.lists.proofs.Scans.{all_pass, all_fail, all_end}
-use Rattle.shape.specs.Shape.{most_nodes}
 use Rattle.ordering.specs.Following.{by_table, sent_to}
 use Rattle.ordering.proofs.all_sent.Given as goal
 

@@ -3,14 +3,12 @@ use mathlib.Core.Path.{◌≡◌, sym, ◌∙◌}
 use mathlib.Core.Bool.{true}
 use Prim.Native.Nat.{◌<◌}
 use native.Mathlib.Omega.{arith}
-use borrow.Author.Rules.{rules}
-use borrow.Author.Tests.{not-true, not-false}
 use Rattle.shape.specs.Shape.{most_nodes}
 use Rattle.ordering.specs.Ordering.{between}
 use Rattle.ordering.specs.Following.{in_plan, by_table}
 use Rattle.ordering.proofs.Followed.{planned_low, follow_unplanned, follow_again, follow_exchange, follow_message}
 use Rattle.ordering.proofs.may_follow.Goals as goal
-use Rattle.ordering.proofs.may_follow.Goals.{After-listed, After-way_told-1, Else-not-planned, Start}
+use Rattle.ordering.proofs.may_follow.Goals.{Else-not-planned}
 
 pub returns-then-not-planned : goal.returns-then-not-planned
 returns-then-not-planned c = sym (follow_unplanned _ _ _ _ (sym c.planned.ensures ∙ c.if-not-planned.true))
@@ -30,7 +28,7 @@ pub overflow_add-sender : goal.overflow_add-sender
 overflow_add-sender c = omega (arith, (low c).0, (low c).1)
 
 pub bounds-sent-sender : goal.bounds-sent-sender
-bounds-sent-sender c = omega (arith, (low c).0, (low c).1)
+bounds-sent-sender c = omega (arith, (low (goal.at.bounds-sent-sender c).Else-not-planned).0, (low (goal.at.bounds-sent-sender c).Else-not-planned).1)
 
 pub returns-then-sent-sender : goal.returns-then-sent-sender
 unfolding by_table

@@ -1,5 +1,4 @@
 -- `ordering::planned` meets its contract: the tests of the lists are those of the definition. Assumes nothing.
-use borrow.Author.Rules.{rules}
 use Rattle.ordering.specs.Following.{in_plan}
 use Rattle.ordering.proofs.planned.Goals as goal
 

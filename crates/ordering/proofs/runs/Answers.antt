@@ -1,9 +1,8 @@
 -- `ordering::runs` meets its contract: each transfer so far may follow those before it, and the table has what they have sent. Assumes nothing.
 use mathlib.Core.Path.{◌≡◌, sym, ap, subst, ◌∙◌}
 use mathlib.Core.Bool.{true}
-use Prim.Native.Nat.{ℕ, ◌+◌, ◌*◌, ◌/◌, ◌-◌, ◌≤◌, ◌<◌}
+use Prim.Native.Nat.{◌+◌, ◌*◌, ◌/◌, ◌-◌, ◌<◌}
 use native.Mathlib.Omega.{arith}
-use borrow.Author.Tests.{not-true, not-false}
 use lib.ListN.{length, get_or, take, set}
 use Rattle.lists.proofs.Tests.{each_more}
 use Rattle.shape.specs.Shape.{most_nodes}
@@ -16,7 +15,7 @@ use Rattle.ordering.specs.Following.{by_list, may_follow, Sent, Nodes}
 use Rattle.ordering.proofs.Followed.{nodes_low, planned_low, follow_planned, follow_yes, follow_no, length_no, sent_none, sent_more, table_follow}
 use Rattle.ordering.proofs.Promised.{pairs_length, pairs_at}
 use Rattle.ordering.proofs.runs.Goals as goal
-use Rattle.ordering.proofs.runs.Goals.{After-may_follow, At-loop-x, Else-not-may_follow, Else-numbers-count, In-loop-x, Start}
+use Rattle.ordering.proofs.runs.Goals.{After-may_follow, Else-not-may_follow, Else-numbers-count, In-loop-x, Start}
 
 -- the lists of an accepted repair, and its nodes
 accepted : (c : Start) → let a = c.args in Repairable a.s a.dead.now a.helpers.now

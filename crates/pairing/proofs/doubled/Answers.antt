@@ -1,12 +1,9 @@
 -- `pairing::doubled` meets its contract. Assumes nothing.
 use mathlib.Core.Path.{◌≡◌, refl}
-use Prim.Native.Nat.{ℕ, ◌-◌, ◌*◌, ◌≤◌, ◌<◌}
+use Prim.Native.Nat.{◌-◌, ◌*◌}
 use native.Mathlib.Omega.{arith}
-use borrow.Author.Rules.{rules}
-use lib.ListN.{length, length-set}
-use Rattle.lists.specs.Lists.{element}
+use lib.ListN.{length-set}
 use Rattle.lists.proofs.Stores.{stored_more}
-use Rattle.rows.specs.Rows.{most_places}
 use Rattle.pairing.proofs.doubled.Goals as goal
 
 pub loop-t-init : goal.loop-t-init

@@ -1,11 +1,8 @@
 -- `pairing::doubled` meets its contract. Assumes nothing.
-use mathlib.Core.Path.{◌≡◌, refl}
+use mathlib.Core.Path.{◌≡◌}
 use Prim.Native.Nat.{ℕ, ◌-◌, ◌*◌, ◌≤◌, ◌<◌}
-use native.Mathlib.Omega.{arith}
-use borrow.Author.Rules.{rules}
-use lib.ListN.{length, length-set}
+use lib.ListN.{length}
 use Rattle.lists.specs.Lists.{element}
-use Rattle.lists.proofs.Stores.{stored_more}
 use Rattle.rows.specs.Rows.{most_places}
 use Rattle.pairing.proofs.doubled.Given as goal
 

@@ -1,5 +1,4 @@
 -- `pairing::first_into` meets its contract: the first step is made with a table, small or large. Assumes nothing.
-use borrow.Author.Rules.{rules}
 use Rattle.classes.proofs.Layouts.{bounded}
 use Rattle.pairing.proofs.first_into.Goals as goal
 

@@ -1,13 +1,12 @@
 -- `patterns::number_of` meets its contract. Assumes nothing.
 use mathlib.Core.Path.{◌≡◌, subst}
-use Prim.Native.Nat.{◌+◌, ◌-◌, ◌≤◌, ◌<◌, ◌^◌}
+use Prim.Native.Nat.{◌+◌, ◌-◌, ◌<◌, ◌^◌}
 use native.Mathlib.Omega.{arith}
 use Rattle.shape.specs.Shape.{most_nodes}
 use Rattle.patterns.specs.Patterns.{pattern, Making}
 use Rattle.patterns.proofs.Patterns.{making_none, making_low, making_end, making_fixed, making_free}
 use borrow.Author.Rules.{rules}
 use Rattle.patterns.proofs.number_of.Goals as goal
-use Rattle.patterns.proofs.number_of.Goals.{Start}
 
 pub loop-i-init : goal.loop-i-init
 loop-i-init c = (search rules, making_none _ _ _)

@@ -1,11 +1,8 @@
 -- `patterns::numbers_of` meets its contract. Assumes nothing.
-use mathlib.Core.Path.{◌≡◌}
-use Prim.Native.Nat.{ℕ, ◌-◌, ◌≤◌, ◌<◌}
+use Prim.Native.Nat.{◌-◌}
 use native.Mathlib.Omega.{arith}
-use lib.ListN.{length, length-set}
-use Rattle.lists.specs.Lists.{element}
+use lib.ListN.{length-set}
 use Rattle.lists.proofs.Stores.{stored_more}
-use Rattle.rows.specs.Rows.{most_places}
 use Rattle.patterns.specs.Patterns.{Stands}
 use borrow.Author.Rules.{rules}
 use Rattle.patterns.proofs.numbers_of.Goals as goal

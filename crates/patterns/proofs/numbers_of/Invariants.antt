@@ -1,13 +1,10 @@
 -- `patterns::numbers_of` meets its contract. Assumes nothing.
 use mathlib.Core.Path.{◌≡◌}
 use Prim.Native.Nat.{ℕ, ◌-◌, ◌≤◌, ◌<◌}
-use native.Mathlib.Omega.{arith}
-use lib.ListN.{length, length-set}
+use lib.ListN.{length}
 use Rattle.lists.specs.Lists.{element}
-use Rattle.lists.proofs.Stores.{stored_more}
 use Rattle.rows.specs.Rows.{most_places}
 use Rattle.patterns.specs.Patterns.{Stands}
-use borrow.Author.Rules.{rules}
 use Rattle.patterns.proofs.numbers_of.Given as goal
 
 abbrev pub invariant-loop-p : goal.invariant-loop-p

@@ -1,15 +1,13 @@
 -- `patterns::patterns_of` meets its contract. Assumes nothing.
 use mathlib.Core.Path.{◌≡◌, sym, ap, ◌∙◌}
-use Prim.Native.Nat.{ℕ, ◌+◌, ◌-◌, ◌≤◌, ◌<◌}
+use Prim.Native.Nat.{ℕ, ◌-◌}
 use native.Mathlib.Omega.{arith}
-use lib.ListN.{length, get_or-replicate}
-use Rattle.lists.specs.Lists.{element}
+use lib.ListN.{get_or-replicate}
 use Rattle.rows.specs.Rows.{most_places}
 use Rattle.patterns.specs.Patterns.{pattern}
 use Rattle.patterns.proofs.Patterns.{pattern_none, pattern_skip, pattern_low, lengthened_more}
 use borrow.Author.Rules.{rules}
 use Rattle.patterns.proofs.patterns_of.Goals as goal
-use Rattle.patterns.proofs.patterns_of.Goals.{Start}
 
 pub loop-node-init : goal.loop-node-init
 loop-node-init c = (search rules, search rules, λ t h. get_or-replicate {A = ℕ} most_places t 0 0 (omega arith) ∙ sym (pattern_none _ _))

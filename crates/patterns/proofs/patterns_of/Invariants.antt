@@ -1,13 +1,10 @@
 -- `patterns::patterns_of` meets its contract. Assumes nothing.
-use mathlib.Core.Path.{◌≡◌, sym, ap, ◌∙◌}
+use mathlib.Core.Path.{◌≡◌}
 use Prim.Native.Nat.{ℕ, ◌+◌, ◌-◌, ◌≤◌, ◌<◌}
-use native.Mathlib.Omega.{arith}
-use lib.ListN.{length, get_or-replicate}
+use lib.ListN.{length}
 use Rattle.lists.specs.Lists.{element}
 use Rattle.rows.specs.Rows.{most_places}
 use Rattle.patterns.specs.Patterns.{pattern}
-use Rattle.patterns.proofs.Patterns.{pattern_none, pattern_skip, pattern_low, lengthened_more}
-use borrow.Author.Rules.{rules}
 use Rattle.patterns.proofs.patterns_of.Given as goal
 
 abbrev pub invariant-loop-node : goal.invariant-loop-node

@@ -1,7 +1,6 @@
 -- `patterns::pays` meets its contract. Assumes nothing.
 use mathlib.Core.Path.{sym}
 use mathlib.Core.Bool.{true≢false}
-use borrow.Author.Rules.{rules}
 use Rattle.patterns.proofs.pays.Goals as goal
 
 pub returns-then-two-le-RUN : goal.returns-then-two-le-RUN

@@ -1,8 +1,6 @@
 -- `patterns::represent` meets its contract. Assumes nothing.
-use borrow.Author.Rules.{rules}
 use Rattle.lists.specs.Lists.{element}
 use Rattle.patterns.proofs.represent.Goals as goal
-use Rattle.patterns.proofs.represent.Goals.{Start}
 
 pub returns : goal.returns
 returns c =

@@ -1,15 +1,13 @@
 -- `picking::look_up_row` meets its contract. Assumes nothing.
 use mathlib.Core.Path.{◌≡◌, ap, ◌∙◌}
-use Prim.Native.Nat.{◌-◌, ◌≤◌}
+use Prim.Native.Nat.{◌-◌}
 use native.Mathlib.Omega.{arith}
 use borrow.Author.Rules.{rules}
 use lib.ListN.{get_or}
 use Rattle.lists.specs.Digits.{bit}
 use Rattle.rows.proofs.Rows.{stored_none, stored_more}
-use Rattle.rows.specs.Rows.{Stored}
 use Rattle.picking.specs.Picking.{looked_up, looked_at}
 use Rattle.picking.proofs.look_up_row.Goals as goal
-use Rattle.picking.proofs.look_up_row.Goals.{After-bit, Start}
 
 pub loop-t-init : goal.loop-t-init
 loop-t-init c = (search rules, stored_none _ _ _)

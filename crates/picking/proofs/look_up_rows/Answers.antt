@@ -1,13 +1,11 @@
 -- `picking::look_up_rows` meets its contract. Assumes nothing.
 use mathlib.Core.Path.{◌≡◌, refl, sym, ◌∙◌}
-use Prim.Native.Nat.{◌-◌, ◌≤◌}
+use Prim.Native.Nat.{◌-◌}
 use native.Mathlib.Omega.{arith}
 use borrow.Author.Rules.{rules}
 use lib.ListN.{length}
-use Rattle.picking.specs.Picking.{LookedUp}
 use Rattle.picking.proofs.Picking.{looked_none, looked_more}
 use Rattle.picking.proofs.look_up_rows.Goals as goal
-use Rattle.picking.proofs.look_up_rows.Goals.{Start}
 
 pub loop-j-init : goal.loop-j-init
 loop-j-init c =

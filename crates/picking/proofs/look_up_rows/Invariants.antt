@@ -1,11 +1,8 @@
 -- `picking::look_up_rows` meets its contract. Assumes nothing.
-use mathlib.Core.Path.{◌≡◌, refl, sym, ◌∙◌}
+use mathlib.Core.Path.{◌≡◌}
 use Prim.Native.Nat.{◌-◌, ◌≤◌}
-use native.Mathlib.Omega.{arith}
-use borrow.Author.Rules.{rules}
 use lib.ListN.{length}
 use Rattle.picking.specs.Picking.{LookedUp}
-use Rattle.picking.proofs.Picking.{looked_none, looked_more}
 use Rattle.picking.proofs.look_up_rows.Given as goal
 
 abbrev pub invariant-loop-j : goal.invariant-loop-j

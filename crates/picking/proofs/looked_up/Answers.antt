@@ -1,5 +1,4 @@
 -- `picking::looked_up` meets its contract. Assumes nothing.
-use borrow.Author.Rules.{rules}
 use borrow.Author.Tests.{eq-eqb, ne_eqb}
 use Rattle.picking.specs.Picking.{looked_up}
 use Rattle.picking.proofs.looked_up.Goals as goal

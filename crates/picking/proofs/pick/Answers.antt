@@ -11,7 +11,7 @@ use Rattle.rows.proofs.Rows.{low_replicate}
 use Rattle.rows.specs.Rows.{most_places}
 use Rattle.tables.specs.Tables.{TableOf}
 use Rattle.tables.proofs.Tables.{table_none, table_skip, table_more}
-use Rattle.patterns.specs.Patterns.{pattern, patterns}
+use Rattle.patterns.specs.Patterns.{patterns}
 use Rattle.patterns.proofs.Patterns.{pattern_lt}
 use Rattle.picking.specs.Picking.{looked_size, Pickable}
 use Rattle.picking.proofs.pick.Goals as goal

@@ -1,9 +1,5 @@
 -- `picking::pick_row` meets its contract. Assumes nothing.
-use mathlib.Core.Path.{◌≡◌, refl}
 use Prim.Native.Nat.{◌-◌, ◌≤◌}
-use native.Mathlib.Omega.{arith}
-use borrow.Author.Rules.{rules}
-use Rattle.rows.proofs.Rows.{stored_none, stored_more}
 use Rattle.rows.specs.Rows.{Stored}
 use Rattle.picking.specs.Picking.{picked}
 use Rattle.picking.proofs.pick_row.Given as goal

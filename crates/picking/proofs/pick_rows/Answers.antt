@@ -1,21 +1,17 @@
 -- `picking::pick_rows` meets its contract. Assumes nothing.
 use mathlib.Core.Path.{◌≡◌, refl, ◌∙◌}
-use mathlib.Core.Bool.{Bool, false}
-use mathlib.Core.List.{List}
-use Prim.Native.Nat.{ℕ, ◌+◌, ◌-◌, ◌*◌, ◌≤◌, ◌<◌}
+use Prim.Native.Nat.{◌+◌, ◌-◌, ◌*◌, ◌≤◌}
 use native.Mathlib.Omega.{arith}
 use borrow.Author.Rules.{rules}
 use lib.ListN.{length}
-use Rattle.lists.specs.Lists.{member}
 use Rattle.lists.proofs.Others.{rising_fits}
 use Rattle.shape.specs.Shape.{most_nodes}
 use Rattle.rows.specs.Rows.{most_places}
-use Rattle.tables.specs.Tables.{table_size, NodeRows}
+use Rattle.tables.specs.Tables.{table_size}
 use Rattle.tables.proofs.Tables.{row_room}
-use Rattle.picking.specs.Picking.{LookedUp, Pickable}
 use Rattle.picking.proofs.Picking.{picks_none, picks_more}
 use Rattle.picking.proofs.pick_rows.Goals as goal
-use Rattle.picking.proofs.pick_rows.Goals.{In-loop-j, Start}
+use Rattle.picking.proofs.pick_rows.Goals.{In-loop-j}
 
 -- there are few listed nodes, and the row lies in the table
 few : (c : In-loop-j) → c.loop-j.j + 1 ≤ most_nodes

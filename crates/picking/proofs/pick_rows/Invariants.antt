@@ -1,19 +1,12 @@
 -- `picking::pick_rows` meets its contract. Assumes nothing.
-use mathlib.Core.Path.{◌≡◌, refl, ◌∙◌}
+use mathlib.Core.Path.{◌≡◌}
 use mathlib.Core.Bool.{Bool, false}
 use mathlib.Core.List.{List}
-use Prim.Native.Nat.{ℕ, ◌+◌, ◌-◌, ◌*◌, ◌≤◌, ◌<◌}
-use native.Mathlib.Omega.{arith}
-use borrow.Author.Rules.{rules}
+use Prim.Native.Nat.{ℕ, ◌+◌, ◌-◌, ◌≤◌, ◌<◌}
 use lib.ListN.{length}
 use Rattle.lists.specs.Lists.{member}
-use Rattle.lists.proofs.Others.{rising_fits}
-use Rattle.shape.specs.Shape.{most_nodes}
-use Rattle.rows.specs.Rows.{most_places}
-use Rattle.tables.specs.Tables.{table_size, NodeRows}
-use Rattle.tables.proofs.Tables.{row_room}
+use Rattle.tables.specs.Tables.{NodeRows}
 use Rattle.picking.specs.Picking.{LookedUp, Pickable}
-use Rattle.picking.proofs.Picking.{picks_none, picks_more}
 use Rattle.picking.proofs.pick_rows.Given as goal
 
 abbrev pub invariant-loop-j : goal.invariant-loop-j

@@ -1,9 +1,7 @@
 -- `picking::run_multipliers` meets its contract. Assumes nothing.
 use native.Mathlib.Omega.{arith}
-use borrow.Author.Rules.{rules}
 use lib.Pow.{pow_mono}
 use Rattle.picking.proofs.run_multipliers.Goals as goal
-use Rattle.picking.proofs.run_multipliers.Goals.{Start}
 
 pub pick-requires : goal.pick-requires
 pick-requires c =

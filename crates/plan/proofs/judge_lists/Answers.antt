@@ -5,7 +5,7 @@ use Rattle.shape.proofs.Batches.{batch_positive}
 use Rattle.classes.specs.Classes.{batch}
 use Rattle.transfers.specs.Plan.{lists_number}
 use Rattle.plan.proofs.judge_lists.Goals as goal
-use Rattle.plan.proofs.judge_lists.Goals.{After-layers_bad-bad_layers, Else-left}
+use Rattle.plan.proofs.judge_lists.Goals.{After-layers_bad-bad_layers}
 
 pub layers_bad-bad_layers-requires : goal.layers_bad-bad_layers-requires
 layers_bad-bad_layers-requires c = rw c.batch.ensures (batch_positive _)

@@ -2,7 +2,6 @@
 use native.Mathlib.Omega.{arith}
 use Rattle.plan.proofs.Exits.{puts_as, read_bad, read_good, lists_bad, lists_read}
 use Rattle.plan.proofs.write_listed.Goals as goal
-use Rattle.plan.proofs.write_listed.Goals.{After-read_numbers, After-read_numbers-arg-1, Start}
 
 pub returns-in_default : goal.returns-in_default
 returns-in_default c =

@@ -10,7 +10,6 @@ use Rattle.transfers.proofs.Room.{shape_passed}
 use Rattle.plan.proofs.Exits.{puts_as, front_length}
 use Rattle.transfers.proofs.Printed.{front_accepted}
 use Rattle.plan.proofs.write_lists.Goals as goal
-use Rattle.plan.proofs.write_lists.Goals.{Start}
 
 pub overflow_add-count : goal.overflow_add-count
 overflow_add-count c = omega (arith, front_accepted _ _ c.requires.0)

@@ -8,7 +8,7 @@ use Rattle.transfers.specs.Plan.{lists_number}
 use Rattle.transfers.proofs.Room.{lists_accepted}
 use Rattle.plan.proofs.Exits.{puts_as, front_length, behind_dead, nodes_refused, nodes_planned}
 use Rattle.plan.proofs.write_nodes.Goals as goal
-use Rattle.plan.proofs.write_nodes.Goals.{After-judge_lists, In_default, Start}
+use Rattle.plan.proofs.write_nodes.Goals.{In_default}
 
 pub slice_bounds-dead-end : goal.slice_bounds-dead-end
 slice_bounds-dead-end c = front_length _ _ c.requires.1

@@ -1,6 +1,5 @@
 -- `repair::first_step` meets its contract: turned back, or the pairs and sums of the new node's rank. Assumes nothing.
 use mathlib.Core.Path.{◌≡◌, sym, ap, ap₂, ◌∙◌}
-use borrow.Author.Rules.{rules}
 use lib.ListN.{length}
 use Rattle.shape.specs.Refusals.{answer_number}
 use Rattle.shape.proofs.Answers.{afterwards_done}

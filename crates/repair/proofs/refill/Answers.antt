@@ -1,7 +1,6 @@
 -- `repair::refill` meets its contract: the wire and the nodes of the whole repair, assembled. Assumes nothing.
 use mathlib.Core.Path.{◌∙◌}
 use native.Mathlib.Omega.{arith}
-use borrow.Author.Rules.{rules}
 use lib.ListN.{length}
 use Rattle.judging.proofs.Judged.{lists_accepted, WholePassed, whole_passed}
 use Rattle.repair.proofs.Assembly.{wire_due, wired, wire_is, renewable, nodes_are}

@@ -1,7 +1,6 @@
 -- `repair::second_step` meets its contract: turned back, or all symbols of the new node's rank. Assumes nothing.
 use mathlib.Core.Path.{◌≡◌, sym, ap, ap₂, ◌∙◌}
 use native.Mathlib.Omega.{arith}
-use borrow.Author.Rules.{rules}
 use lib.ListN.{length}
 use Rattle.shape.specs.Refusals.{answer_number}
 use Rattle.shape.proofs.Answers.{afterwards_done}

@@ -3,12 +3,11 @@ use mathlib.Core.Path.{◌≡◌, sym, ◌∙◌}
 use mathlib.Core.Bool.{false}
 use native.Mathlib.Omega.{arith}
 use native.Mathlib.Nat.{mul-le-mul}
-use borrow.Author.Rules.{rules}
 use Rattle.shape.specs.Refusals.{shape_bad, wrong_length}
 use Rattle.shape.proofs.Accepted.{shape_accepted}
 use Rattle.code.specs.Refusals.{restore_refusal}
 use Rattle.restoring.proofs.judge_restore.Goals as goal
-use Rattle.restoring.proofs.judge_restore.Goals.{After-size-places, Else-misfit, Else-shape_bad}
+use Rattle.restoring.proofs.judge_restore.Goals.{Else-shape_bad}
 
 pub returns-then-shape_bad : goal.returns-then-shape_bad
 unfolding restore_refusal

@@ -5,11 +5,10 @@ use native.Mathlib.Nat.{mul-le-mul_right}
 use native.Mathlib.Omega.{arith}
 use lib.ListN.{length, get_or}
 use Rattle.lists.proofs.Members.{rising_below}
-use Rattle.restoring.specs.Steps.{ListedPlaced}
 use Rattle.restoring.proofs.Placing.{listed_none, listed_more}
 use borrow.Author.Rules.{rules}
 use Rattle.restoring.proofs.place_nodes.Goals as goal
-use Rattle.restoring.proofs.place_nodes.Goals.{In-loop-j, Start}
+use Rattle.restoring.proofs.place_nodes.Goals.{In-loop-j}
 
 pub loop-j-init : goal.loop-j-init
 loop-j-init c =

@@ -1,13 +1,8 @@
 -- `restoring::place_nodes` meets its contract. Assumes nothing.
-use mathlib.Core.Path.{◌≡◌, refl}
-use Prim.Native.Nat.{◌+◌, ◌-◌, ◌*◌, ◌≤◌}
-use native.Mathlib.Nat.{mul-le-mul_right}
-use native.Mathlib.Omega.{arith}
-use lib.ListN.{length, get_or}
-use Rattle.lists.proofs.Members.{rising_below}
+use mathlib.Core.Path.{◌≡◌}
+use Prim.Native.Nat.{◌-◌, ◌≤◌}
+use lib.ListN.{length}
 use Rattle.restoring.specs.Steps.{ListedPlaced}
-use Rattle.restoring.proofs.Placing.{listed_none, listed_more}
-use borrow.Author.Rules.{rules}
 use Rattle.restoring.proofs.place_nodes.Given as goal
 
 abbrev pub invariant-loop-j : goal.invariant-loop-j

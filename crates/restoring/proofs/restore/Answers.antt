@@ -1,6 +1,5 @@
 -- `code::restore` meets its contract: turned back by the judging, or restored. Assumes nothing.
 use mathlib.Core.Path.{◌≡◌, sym, ap, ◌∙◌}
-use borrow.Author.Rules.{rules}
 use lib.ListN.{length}
 use Rattle.shape.specs.Refusals.{answer_number}
 use Rattle.code.specs.Code.{narrow}
@@ -9,7 +8,7 @@ use Rattle.code.proofs.Restored.{restored_length}
 use Rattle.code.proofs.Accepted.{restore_accepted}
 use Rattle.code.proofs.Promised.{restores_refused, restores_done}
 use Rattle.restoring.proofs.restore.Goals as goal
-use Rattle.restoring.proofs.restore.Goals.{After-restore_all, In-Done}
+use Rattle.restoring.proofs.restore.Goals.{In-Done}
 
 -- the judging found no cause
 accepted : (c : In-Done) →

@@ -1,13 +1,13 @@
 -- `rows::add_products` meets its contract. Assumes nothing.
 use mathlib.Core.Path.{◌≡◌, ap₂}
-use Prim.Native.Nat.{◌+◌, ◌-◌, ◌*◌, ◌≤◌, ◌<◌}
+use Prim.Native.Nat.{◌+◌, ◌-◌, ◌*◌, ◌<◌}
 use native.Mathlib.Omega.{arith}
 use lib.ListN.{get_or}
-use Rattle.rows.specs.Rows.{Stored, added}
+use Rattle.rows.specs.Rows.{added}
 use Rattle.rows.proofs.Rows.{stored_none, stored_front, stored_later}
 use borrow.Author.Rules.{rules}
 use Rattle.rows.proofs.add_products.Goals as goal
-use Rattle.rows.proofs.add_products.Goals.{After-wide-in-loop-i, Start}
+use Rattle.rows.proofs.add_products.Goals.{After-wide-in-loop-i}
 
 pub loop-i-init : goal.loop-i-init
 loop-i-init c = (search rules, stored_none _ _ _)

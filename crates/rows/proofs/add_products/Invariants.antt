@@ -1,11 +1,6 @@
 -- `rows::add_products` meets its contract. Assumes nothing.
-use mathlib.Core.Path.{◌≡◌, ap₂}
-use Prim.Native.Nat.{◌+◌, ◌-◌, ◌*◌, ◌≤◌, ◌<◌}
-use native.Mathlib.Omega.{arith}
-use lib.ListN.{get_or}
+use Prim.Native.Nat.{◌-◌, ◌≤◌}
 use Rattle.rows.specs.Rows.{Stored, added}
-use Rattle.rows.proofs.Rows.{stored_none, stored_front, stored_later}
-use borrow.Author.Rules.{rules}
 use Rattle.rows.proofs.add_products.Given as goal
 
 abbrev pub invariant-loop-i : goal.invariant-loop-i

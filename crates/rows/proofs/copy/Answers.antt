@@ -1,12 +1,11 @@
 -- `rows::copy` meets its contract. Assumes nothing.
 use mathlib.Core.Path.{◌≡◌, refl}
-use Prim.Native.Nat.{◌-◌, ◌≤◌}
+use Prim.Native.Nat.{◌-◌}
 use native.Mathlib.Omega.{arith}
-use Rattle.rows.specs.Rows.{Stored, copied}
+use Rattle.rows.specs.Rows.{copied}
 use Rattle.rows.proofs.Rows.{stored_none, stored_more}
 use borrow.Author.Rules.{rules}
 use Rattle.rows.proofs.copy.Goals as goal
-use Rattle.rows.proofs.copy.Goals.{Start}
 
 pub loop-i-init : goal.loop-i-init
 loop-i-init c = (search rules, stored_none _ _ _)

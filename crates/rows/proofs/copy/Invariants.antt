@@ -1,10 +1,6 @@
 -- `rows::copy` meets its contract. Assumes nothing.
-use mathlib.Core.Path.{◌≡◌, refl}
 use Prim.Native.Nat.{◌-◌, ◌≤◌}
-use native.Mathlib.Omega.{arith}
 use Rattle.rows.specs.Rows.{Stored, copied}
-use Rattle.rows.proofs.Rows.{stored_none, stored_more}
-use borrow.Author.Rules.{rules}
 use Rattle.rows.proofs.copy.Given as goal
 
 abbrev pub invariant-loop-i : goal.invariant-loop-i

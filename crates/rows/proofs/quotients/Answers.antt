@@ -4,11 +4,10 @@ use Prim.Native.Nat.{◌-◌, ◌*◌, ◌≤◌}
 use native.Mathlib.Omega.{arith}
 use native.Mathlib.Nat.{mod-lt, mul-le-mul}
 use lib.ListN.{get_or}
-use Rattle.rows.specs.Rows.{Stored, quotient}
+use Rattle.rows.specs.Rows.{quotient}
 use Rattle.rows.proofs.Rows.{stored_none, stored_more, product_opposite}
 use borrow.Author.Rules.{rules}
 use Rattle.rows.proofs.quotients.Goals as goal
-use Rattle.rows.proofs.quotients.Goals.{Start}
 
 pub loop-i-init : goal.loop-i-init
 loop-i-init c = (search rules, stored_none _ _ _)
@@ -30,8 +29,7 @@ overflow_cast-table c =
 pub loop-i-preserved : goal.loop-i-preserved
 unfolding quotient
 loop-i-preserved c =
-    let l = c.loop-i in
-    (
+    let l = c.loop-i in (
       search rules,
       stored_more c.args.at l.i _ _ l.table _ l.invariant.1 (omega arith) (product_opposite c.args.q _ _ (c.requires.4.at l.i)),
     )

@@ -1,12 +1,6 @@
 -- `rows::quotients` meets its contract. Assumes nothing.
-use mathlib.Core.Path.{◌≡◌}
-use Prim.Native.Nat.{◌-◌, ◌*◌, ◌≤◌}
-use native.Mathlib.Omega.{arith}
-use native.Mathlib.Nat.{mod-lt, mul-le-mul}
-use lib.ListN.{get_or}
+use Prim.Native.Nat.{◌-◌, ◌≤◌}
 use Rattle.rows.specs.Rows.{Stored, quotient}
-use Rattle.rows.proofs.Rows.{stored_none, stored_more, product_opposite}
-use borrow.Author.Rules.{rules}
 use Rattle.rows.proofs.quotients.Given as goal
 
 abbrev pub invariant-loop-i : goal.invariant-loop-i

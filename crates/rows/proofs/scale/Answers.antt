@@ -5,11 +5,10 @@ use native.Mathlib.Omega.{arith}
 use native.Mathlib.Nat.{mul-le-mul}
 use lib.ListN.{get_or}
 use Rattle.field.specs.Residues.{minus}
-use Rattle.rows.specs.Rows.{Stored, scaled}
+use Rattle.rows.specs.Rows.{scaled}
 use Rattle.rows.proofs.Rows.{stored_none, stored_front, stored_later, product_difference}
 use borrow.Author.Rules.{rules}
 use Rattle.rows.proofs.scale.Goals as goal
-use Rattle.rows.proofs.scale.Goals.{At-loop-i, Start}
 
 pub loop-i-init : goal.loop-i-init
 loop-i-init c = (search rules, stored_none _ _ _)
@@ -33,8 +32,7 @@ overflow_mul-row c =
 pub loop-i-preserved : goal.loop-i-preserved
 unfolding scaled
 loop-i-preserved c =
-    let l = c.loop-i in
-    (
+    let l = c.loop-i in (
       search rules,
       stored_front l.i _ _ l.row _ l.invariant.1 (omega arith)
           (product_difference c.args.q _ _ _ (c.requires.5.at (c.args.y + l.i))

@@ -1,13 +1,6 @@
 -- `rows::scale` meets its contract. Assumes nothing.
-use mathlib.Core.Path.{◌≡◌, ap, ◌∙◌}
-use Prim.Native.Nat.{◌+◌, ◌-◌, ◌*◌, ◌%◌, ◌≤◌}
-use native.Mathlib.Omega.{arith}
-use native.Mathlib.Nat.{mul-le-mul}
-use lib.ListN.{get_or}
-use Rattle.field.specs.Residues.{minus}
+use Prim.Native.Nat.{◌-◌, ◌≤◌}
 use Rattle.rows.specs.Rows.{Stored, scaled}
-use Rattle.rows.proofs.Rows.{stored_none, stored_front, stored_later, product_difference}
-use borrow.Author.Rules.{rules}
 use Rattle.rows.proofs.scale.Given as goal
 
 abbrev pub invariant-loop-i : goal.invariant-loop-i

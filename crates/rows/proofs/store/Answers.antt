@@ -1,14 +1,13 @@
 -- `rows::store` meets its contract. Assumes nothing.
 use mathlib.Core.Path.{◌≡◌, refl}
-use Prim.Native.Nat.{◌-◌, ◌≤◌}
+use Prim.Native.Nat.{◌-◌}
 use native.Mathlib.Omega.{arith}
 use native.Mathlib.Nat.{mod-lt}
 use lib.ListN.{get_or}
-use Rattle.rows.specs.Rows.{Stored, remainder}
+use Rattle.rows.specs.Rows.{remainder}
 use Rattle.rows.proofs.Rows.{stored_none, stored_more}
 use borrow.Author.Rules.{rules}
 use Rattle.rows.proofs.store.Goals as goal
-use Rattle.rows.proofs.store.Goals.{Start}
 
 pub loop-i-init : goal.loop-i-init
 loop-i-init c = (search rules, stored_none _ _ _)

@@ -1,12 +1,6 @@
 -- `rows::store` meets its contract. Assumes nothing.
-use mathlib.Core.Path.{◌≡◌, refl}
 use Prim.Native.Nat.{◌-◌, ◌≤◌}
-use native.Mathlib.Omega.{arith}
-use native.Mathlib.Nat.{mod-lt}
-use lib.ListN.{get_or}
 use Rattle.rows.specs.Rows.{Stored, remainder}
-use Rattle.rows.proofs.Rows.{stored_none, stored_more}
-use borrow.Author.Rules.{rules}
 use Rattle.rows.proofs.store.Given as goal
 
 abbrev pub invariant-loop-i : goal.invariant-loop-i

@@ -5,7 +5,6 @@ use borrow.Author.Rules.{rules}
 use Rattle.lists.specs.Lists.{outside}
 use Rattle.lists.proofs.Scans.{all_pass, all_fail, all_end}
 use Rattle.shape.proofs.apart.Goals as goal
-use Rattle.shape.proofs.apart.Goals.{After-shared_slice_known-in-loop-j-1}
 
 pub returns-then-listed : goal.returns-then-listed
 unfolding outside

@@ -8,7 +8,7 @@ use Rattle.shape.specs.Shape.{within}
 use Rattle.shape.specs.Refusals.{repair_bad}
 use Rattle.shape.proofs.Accepted.{Shaped, shape_accepted}
 use Rattle.shape.proofs.repair_bad.Goals as goal
-use Rattle.shape.proofs.repair_bad.Goals.{After-nodes_bad, Else-not-within, Start}
+use Rattle.shape.proofs.repair_bad.Goals.{Else-not-within, Start}
 
 shaped : (c : Start) → Shaped c.args.s
 shaped c = shape_accepted _ c.requires

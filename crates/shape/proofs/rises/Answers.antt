@@ -3,7 +3,6 @@ use mathlib.Core.Path.{sym, ◌∙◌}
 use native.Mathlib.Omega.{arith}
 use Rattle.lists.proofs.Scans.{rising_pass, rising_low, rising_high, rising_end}
 use Rattle.shape.proofs.rises.Goals as goal
-use Rattle.shape.proofs.rises.Goals.{At-loop-i}
 
 pub returns-then-node-low : goal.returns-then-node-low
 returns-then-node-low c =

@@ -3,14 +3,13 @@ use mathlib.Core.Path.{◌≡◌, refl, sym}
 use Prim.Native.Nat.{◌+◌, ◌-◌, ◌*◌, ◌≤◌, ◌<◌}
 use native.Mathlib.Nat.{mul-le-mul_right}
 use native.Mathlib.Omega.{arith}
-use borrow.Author.Rules.{rules}
 use lib.ListN.{length, get_or}
 use Rattle.lists.proofs.Members.{rising_below}
 use Rattle.rows.specs.Rows.{most_places}
-use Rattle.solving.specs.Solving.{sent_size, Gathered}
+use Rattle.solving.specs.Solving.{sent_size}
 use Rattle.solving.proofs.Entries.{gathered_none, gathered_more}
 use Rattle.solving.proofs.gather.Goals as goal
-use Rattle.solving.proofs.gather.Goals.{In-loop-j, Start}
+use Rattle.solving.proofs.gather.Goals.{In-loop-j}
 
 pub loop-j-init : goal.loop-j-init
 loop-j-init c = (omega arith, refl, gathered_none _ _ c.requires.0 c.requires.1 _ _ _ c.requires.2 _)

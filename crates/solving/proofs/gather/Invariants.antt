@@ -1,14 +1,8 @@
 -- `solving::gather` meets its contract: each helper has a row of its own. Assumes nothing.
-use mathlib.Core.Path.{◌≡◌, refl, sym}
-use Prim.Native.Nat.{◌+◌, ◌-◌, ◌*◌, ◌≤◌, ◌<◌}
-use native.Mathlib.Nat.{mul-le-mul_right}
-use native.Mathlib.Omega.{arith}
-use borrow.Author.Rules.{rules}
-use lib.ListN.{length, get_or}
-use Rattle.lists.proofs.Members.{rising_below}
-use Rattle.rows.specs.Rows.{most_places}
-use Rattle.solving.specs.Solving.{sent_size, Gathered}
-use Rattle.solving.proofs.Entries.{gathered_none, gathered_more}
+use mathlib.Core.Path.{◌≡◌}
+use Prim.Native.Nat.{◌-◌, ◌≤◌}
+use lib.ListN.{length}
+use Rattle.solving.specs.Solving.{Gathered}
 use Rattle.solving.proofs.gather.Given as goal
 
 abbrev pub invariant-loop-j : goal.invariant-loop-j

@@ -3,20 +3,19 @@ use mathlib.Core.Path.{◌≡◌, refl}
 use Prim.Native.Nat.{◌+◌, ◌-◌, ◌*◌, ◌≤◌, ◌<◌}
 use native.Mathlib.Nat.{mul-le-mul, mul-le-mul_right}
 use native.Mathlib.Omega.{arith}
-use borrow.Author.Rules.{rules}
 use lib.ListN.{length, get_or}
 use Rattle.shape.specs.Shape.{most_nodes}
 use Rattle.shape.proofs.Accepted.{most_size}
 use Rattle.rows.specs.Rows.{most_places}
-use Rattle.filling.specs.Filling.{InRun, Summable}
+use Rattle.filling.specs.Filling.{Summable}
 use Rattle.classes.specs.Classes.{node, message_size}
 use Rattle.classes.proofs.Layouts.{bounded, share_high}
-use Rattle.solving.specs.Solving.{slots, Put, Other, slot_place, handed_sum}
+use Rattle.solving.specs.Solving.{slots}
 use Rattle.solving.proofs.Slots.{slots_few}
 use Rattle.solving.proofs.Puts.{put_none, put_same}
 use Rattle.solving.proofs.Sending.{handed_more}
 use Rattle.solving.proofs.hand_out.Goals as goal
-use Rattle.solving.proofs.hand_out.Goals.{After-slot, Else-v-u, Start}
+use Rattle.solving.proofs.hand_out.Goals.{After-slot, Else-v-u}
 
 pub loop-v-init : goal.loop-v-init
 loop-v-init c = (omega arith, put_none _ _ _ _ _ _ (λ e x k h d. omega (arith, d.0)))

@@ -2,7 +2,6 @@
 use mathlib.Core.Path.{ap, ◌∙◌}
 use Prim.Native.Nat.{◌%◌}
 use native.Mathlib.Omega.{arith}
-use borrow.Author.Rules.{rules}
 use Rattle.code.specs.Code.{narrow}
 use Rattle.rows.specs.Rows.{remainder}
 use Rattle.solving.specs.Solving.{row_sum}

@@ -1,23 +1,20 @@
 -- `solving::run_table` meets its contract: the entries that are not skipped are no helper's. Assumes nothing.
 use mathlib.Core.Path.{◌≡◌, refl, sym, ◌∙◌}
-use Prim.Native.Nat.{ℕ, ◌+◌, ◌-◌, ◌^◌, ◌≤◌, ◌<◌}
+use Prim.Native.Nat.{◌+◌, ◌-◌, ◌^◌, ◌<◌}
 use native.Mathlib.Nat.{mul-le-mul}
 use native.Mathlib.Numerals.{add-one}
 use native.Mathlib.Omega.{arith}
-use borrow.Author.Rules.{rules}
 use lib.ListN.{length, get_or, length-set}
-use Rattle.lists.specs.Lists.{element}
 use Rattle.lists.proofs.Stores.{stored_more}
 use Rattle.lists.proofs.Members.{rising_more}
 use Rattle.shape.specs.Shape.{most_nodes}
 use Rattle.shape.proofs.Accepted.{shape_accepted}
-use Rattle.rows.specs.Rows.{most_places}
 use Rattle.classes.specs.Classes.{node, rank_class}
 use Rattle.classes.proofs.Layouts.{bounded, node_high}
 use Rattle.classes.proofs.Members.{members_few}
 use Rattle.solving.proofs.Entries.{needed_missing, unskipped, class_multiplied}
 use Rattle.solving.proofs.run_table.Goals as goal
-use Rattle.solving.proofs.run_table.Goals.{In-loop-t, Start}
+use Rattle.solving.proofs.run_table.Goals.{In-loop-t}
 
 pub overflow_add-n : goal.overflow_add-n
 overflow_add-n c = omega (arith, (bounded c.requires.ready.0).n_high)
@@ -70,19 +67,22 @@ entry_multipliers-requires c =
     let n = c.args.g.shape.n in
     let k = c.args.helpers.now in
     let high = (bounded R).n_high in
-    let few = (shape_accepted c.args.g.shape R.shaped).k_high in record { n_le_most_nodes = (
+    let few = (shape_accepted c.args.g.shape R.shaped).k_high in record {
+      sizes = (
         high,
         (node_high R _ c.requires.ready.1).0,
         c.requires.fronted.1,
         omega (arith, c.loop-t.invariant.1, c.requires.fronted.1),
         rw add-one (rising_more n k c.requires.ready.2),
         omega (arith, mul-le-mul {n₁ = n + 1} {m₁ = length k} {n₂ = most_nodes + 1} {m₂ = most_nodes - 1} (omega arith) (omega (arith, c.requires.ready.3))),
-      ); marks = (
+      );
+      marks = (
         c.marks-marked.ensures,
         λ e h z. c.marks-marked.ensures.each e h ∙ (needed_missing R k c.requires.ready.2 c.requires.ready.4 e (unskipped R _ c.idle-skipped.ensures e h z)).1,
         c.requires.fronted.3,
         c.requires.fronted.4,
-      ) }
+      );
+    }
 
 pub shape_of-table : goal.shape_of-table
 shape_of-table c = c.entry_multipliers.ensures.long ∙ sym c.requires.fronted.3

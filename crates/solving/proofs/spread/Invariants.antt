@@ -1,14 +1,8 @@
 -- `solving::spread` meets its contract: no two places are one. Assumes nothing.
-use mathlib.Core.Path.{◌≡◌, refl}
-use Prim.Native.Nat.{◌+◌, ◌-◌, ◌≤◌, ◌<◌}
-use native.Mathlib.Omega.{arith}
-use borrow.Author.Rules.{rules}
-use lib.ListN.{length}
-use Rattle.lists.specs.Lists.{element}
+use Prim.Native.Nat.{◌-◌, ◌≤◌}
 use Rattle.code.specs.Code.{narrow}
 use Rattle.rows.specs.Rows.{remainder}
 use Rattle.solving.specs.Solving.{Spread}
-use Rattle.solving.proofs.Puts.{spread_none, spread_more}
 use Rattle.solving.proofs.spread.Given as goal
 
 abbrev pub invariant-loop-t : goal.invariant-loop-t

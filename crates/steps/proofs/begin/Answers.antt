@@ -2,13 +2,12 @@
 use mathlib.Core.Path.{◌≡◌, refl, sym, ap, ap₂, ◌∙◌}
 use Prim.Native.Nat.{◌-◌, ◌*◌}
 use native.Mathlib.Omega.{arith}
-use borrow.Author.Rules.{rules}
 use Rattle.classes.specs.Classes.{rank_class, turning_rank}
 use Rattle.classes.proofs.Layouts.{ready_dead, bounded}
 use Rattle.classes.proofs.Ranks.{Rank, turning_rank_lem, rank_class_le}
 use Rattle.steps.proofs.Beginning.{begin_low}
 use Rattle.steps.proofs.begin.Goals as goal
-use Rattle.steps.proofs.begin.Goals.{Else-class-eq0, Start}
+use Rattle.steps.proofs.begin.Goals.{Else-class-eq0}
 
 pub returns-then-class-eq0 : goal.returns-then-class-eq0
 returns-then-class-eq0 c = record { own = λ z. (refl, refl); turned = λ d. absurd (d (sym c.rank_class-class.ensures ∙ c.if-class-eq0.true)) }

@@ -1,6 +1,6 @@
 -- `steps::cross` meets its contract. Assumes nothing.
 use mathlib.Core.Path.{◌≡◌, refl, sym, ap, ◌∙◌}
-use Prim.Native.Nat.{◌+◌, ◌-◌, ◌*◌, ◌≤◌, ◌<◌, ◌^◌}
+use Prim.Native.Nat.{◌+◌, ◌-◌, ◌*◌, ◌<◌, ◌^◌}
 use native.Mathlib.Nat.{mul-le-mul}
 use native.Mathlib.Omega.{arith}
 use lib.ListN.{length, take, drop, length-take, length-drop}
@@ -10,11 +10,11 @@ use Rattle.code.specs.Code.{narrow}
 use Rattle.classes.proofs.Layouts.{bounded}
 use Rattle.lists.proofs.Parts.{piece_part}
 use Rattle.shape.specs.Shape.{most_nodes}
-use Rattle.steps.proofs.Pieces.{Pieces, pieces_none, pieces_more}
+use Rattle.steps.proofs.Pieces.{pieces_none, pieces_more}
 use Rattle.steps.proofs.Turned.{BatchCrossed, turn_high, Tabled, tabled, every, Room, room, blocks_are, apart_by, low_by, crossed_done}
 use borrow.Author.Rules.{rules}
 use Rattle.steps.proofs.cross.Goals as goal
-use Rattle.steps.proofs.cross.Goals.{At-loop-b, In-loop-b, Start}
+use Rattle.steps.proofs.cross.Goals.{At-loop-b, In-loop-b}
 
 -- the rank's table
 known : (c : At-loop-b) → let a = c.args in Tabled a.dead.now a.g a.u c.args.table.now c.class_size-count.result c.turn_of-turn.result
@@ -76,10 +76,13 @@ cross_batch-requires c =
     let r = part i in
     let n : length members ≡ count = ap length k.front ∙ sym k.count_is in
     let long : length (take (l.b * block + block - l.b * block) (drop (l.b * block) l.symbols)) ≡ block = simp (length-take, length-drop) (omega (arith, r.block, i.requires.ready.6, l.invariant.1.long)) in
-    let h : l.b < i.args.g.batches = omega arith in record { members_value = (every i.requires.ready.0 k, rw long (apart_by i.requires.ready.0 _ i.requires.ready.1 _ _ _ k l.b h i.args.which i.requires.ready.4), rw n (simp (length-take, length-drop) (omega (arith, r.sums, i.requires.ready.5)))); low = (
+    let h : l.b < i.args.g.batches = omega arith in record {
+      apart = (every i.requires.ready.0 k, rw long (apart_by i.requires.ready.0 _ i.requires.ready.1 _ _ _ k l.b h i.args.which i.requires.ready.4), rw n (simp (length-take, length-drop) (omega (arith, r.sums, i.requires.ready.5))));
+      low = (
         low_part _ (l.b * count + count - l.b * count) (l.b * count) _ i.requires.low.0,
         rw (piece_part block l.b l.symbols ∙ l.invariant.1.left l.b (omega arith) h) (low_by i.requires.ready.0 _ i.requires.ready.1 _ _ _ k _ l.b h (1 - i.args.which) (omega arith) _ i.requires.low.1),
-      ) }
+      );
+    }
 
 pub loop-b-preserved : goal.loop-b-preserved
 loop-b-preserved c =

@@ -3,7 +3,6 @@ use mathlib.Core.Path.{◌≡◌, ap, ap₂, ◌∙◌}
 use Prim.Native.Nat.{◌+◌, ◌-◌, ◌*◌, ◌≤◌, ◌<◌}
 use native.Mathlib.Nat.{mul-le-mul_right, suc-mul}
 use native.Mathlib.Omega.{arith}
-use borrow.Author.Rules.{rules}
 use lib.ListN.{length, get_or, drop, length-take, length-drop}
 use lib.Seq.{get_or-take, get_or-drop}
 use Rattle.lists.proofs.Buffers.{part_of}
@@ -15,7 +14,7 @@ use Rattle.classes.proofs.Placing.{place_below}
 use Rattle.classes.proofs.Layouts.{ready_dead}
 use Rattle.steps.proofs.Storing.{crossed_sums}
 use Rattle.steps.proofs.cross_from.Goals as goal
-use Rattle.steps.proofs.cross_from.Goals.{After-among, Start}
+use Rattle.steps.proofs.cross_from.Goals.{After-among}
 
 -- the message is within what was received
 within : (c : After-among) →

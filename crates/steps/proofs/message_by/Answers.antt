@@ -1,6 +1,6 @@
 -- `steps::message_by` meets its contract: batch by batch, by the members of the rank's class. Assumes nothing.
 use mathlib.Core.Path.{◌≡◌, refl, sym, ap, ◌∙◌}
-use Prim.Native.Nat.{◌+◌, ◌-◌, ◌*◌, ◌≤◌, ◌^◌}
+use Prim.Native.Nat.{◌+◌, ◌-◌, ◌*◌, ◌^◌}
 use native.Mathlib.Nat.{mul-le-mul}
 use native.Mathlib.Omega.{arith}
 use lib.ListN.{length, take, drop, length-take, length-drop}
@@ -11,11 +11,11 @@ use Rattle.code.specs.Code.{narrow}
 use Rattle.classes.proofs.Layouts.{bounded}
 use Rattle.lists.proofs.Parts.{piece_part}
 use Rattle.shape.specs.Shape.{most_nodes}
-use Rattle.steps.proofs.Pieces.{Pieces, pieces_none, pieces_more}
+use Rattle.steps.proofs.Pieces.{pieces_none, pieces_more}
 use Rattle.steps.proofs.Turned.{BatchAdded, Tabled, tabled, every, Room, room, sums_are, apart_other, message_done}
 use borrow.Author.Rules.{rules}
 use Rattle.steps.proofs.message_by.Goals as goal
-use Rattle.steps.proofs.message_by.Goals.{At-loop-b, In-loop-b, Start}
+use Rattle.steps.proofs.message_by.Goals.{At-loop-b, In-loop-b}
 
 -- the rank's table
 known : (c : At-loop-b) → let a = c.args in Tabled a.dead.now a.g a.u a.table.now c.class_size-count.result c.turn_of-turn.result

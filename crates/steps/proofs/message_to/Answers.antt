@@ -1,5 +1,4 @@
 -- `steps::message_to` meets its contract: the message is made with a table, small or large. Assumes nothing.
-use borrow.Author.Rules.{rules}
 use Rattle.classes.proofs.Layouts.{bounded}
 use Rattle.steps.proofs.message_to.Goals as goal
 

@@ -1,6 +1,5 @@
 -- `steps::message_with` meets its contract: the table has the members of the rank's class. Assumes nothing.
 use native.Mathlib.Omega.{arith}
-use borrow.Author.Rules.{rules}
 use Rattle.steps.proofs.message_with.Goals as goal
 
 pub message_by-requires : goal.message_by-requires

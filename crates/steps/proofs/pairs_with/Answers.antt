@@ -8,11 +8,11 @@ use Rattle.lists.specs.Lists.{piece}
 use Rattle.classes.proofs.Layouts.{bounded}
 use Rattle.lists.proofs.Parts.{piece_part}
 use Rattle.shape.specs.Shape.{most_nodes}
-use Rattle.steps.proofs.Pieces.{Pieces, pieces_none, pieces_more}
+use Rattle.steps.proofs.Pieces.{pieces_none, pieces_more}
 use Rattle.steps.proofs.Turned.{BatchPaired, Tabled, tabled, Room, room, blocks_are, apart_first, apart_other, paired_done}
 use borrow.Author.Rules.{rules}
 use Rattle.steps.proofs.pairs_with.Goals as goal
-use Rattle.steps.proofs.pairs_with.Goals.{After-struct_known-1, At-loop-b, In-loop-b, Start}
+use Rattle.steps.proofs.pairs_with.Goals.{After-struct_known-1, At-loop-b, In-loop-b}
 
 -- the rank's table
 known : (c : At-loop-b) → let a = c.args in Tabled a.dead.now a.g a.u c.list_members.new.out c.class_size-count.result c.turn_of-turn.result

@@ -1,6 +1,5 @@
 -- `steps::recover` meets its contract: the table has the members of class 0. Assumes nothing.
 use native.Mathlib.Omega.{arith}
-use borrow.Author.Rules.{rules}
 use Rattle.steps.proofs.recover.Goals as goal
 
 pub recover_with-requires : goal.recover_with-requires

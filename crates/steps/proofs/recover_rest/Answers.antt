@@ -1,13 +1,11 @@
 -- `steps::recover_rest` meets its contract: the table of the own class is lent on. Assumes nothing.
 use mathlib.Core.Path.{◌≡◌}
 use native.Mathlib.Omega.{arith}
-use borrow.Author.Rules.{rules}
 use lib.ListN.{length}
 use Rattle.code.specs.Code.{narrow}
 use Rattle.classes.proofs.Layouts.{ready_dead}
 use Rattle.steps.proofs.Recovery.{alone}
 use Rattle.steps.proofs.recover_rest.Goals as goal
-use Rattle.steps.proofs.recover_rest.Goals.{Start}
 
 pub returns-then-dead-eq1 : goal.returns-then-dead-eq1
 returns-then-dead-eq1 c =

@@ -1,20 +1,17 @@
 -- `steps::recover_with` meets its contract: the places of the ranks passed are settled. Assumes nothing.
 use mathlib.Core.Path.{◌≡◌, refl, subst, ◌∙◌}
-use mathlib.Core.List.{List}
-use Prim.Native.Nat.{ℕ, ◌-◌, ◌≤◌, ◌<◌}
+use Prim.Native.Nat.{◌-◌, ◌≤◌, ◌<◌}
 use native.Mathlib.Omega.{arith}
-use borrow.Author.Rules.{rules}
 use borrow.Author.Tests.{eqb-false}
 use lib.ListN.{length}
 use Rattle.lists.proofs.Tests.{neither}
-use Rattle.shape.specs.Shape.{size, most_nodes}
+use Rattle.shape.specs.Shape.{most_nodes}
 use Rattle.code.specs.Code.{narrow}
-use Rattle.classes.specs.Layout.{Fronted}
 use Rattle.classes.proofs.Layouts.{ready_dead, bounded}
 use Rattle.steps.specs.Storing.{LowAt}
 use Rattle.steps.proofs.Recovery.{Known, next_low, begun, skipped, crossed, recovered}
 use Rattle.steps.proofs.recover_with.Goals as goal
-use Rattle.steps.proofs.recover_with.Goals.{At-loop-u, In-loop-u, Start}
+use Rattle.steps.proofs.recover_with.Goals.{At-loop-u, In-loop-u}
 
 pub begin-turning-requires : goal.begin-turning-requires
 begin-turning-requires c =

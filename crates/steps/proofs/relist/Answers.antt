@@ -1,5 +1,4 @@
 -- `steps::relist` meets its contract: the table has the class already, or is filled anew. Assumes nothing.
-use borrow.Author.Rules.{rules}
 use Rattle.steps.proofs.relist.Goals as goal
 
 pub returns-then-held-c : goal.returns-then-held-c

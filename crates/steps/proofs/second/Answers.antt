@@ -1,9 +1,7 @@
 -- `steps::second` meets its contract: the second step is made with a table, small or large. Assumes nothing.
 use native.Mathlib.Omega.{arith}
-use borrow.Author.Rules.{rules}
 use Rattle.classes.proofs.Layouts.{bounded}
 use Rattle.steps.proofs.second.Goals as goal
-use Rattle.steps.proofs.second.Goals.{Start}
 
 pub recover_rest-requires : goal.recover_rest-requires
 recover_rest-requires c =

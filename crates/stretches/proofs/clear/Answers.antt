@@ -1,13 +1,11 @@
 -- `stretches::clear` meets its contract. Assumes nothing.
 use lib.ListN.{length}
 use mathlib.Core.Path.{◌≡◌, refl}
-use Prim.Native.Nat.{◌-◌, ◌≤◌}
+use Prim.Native.Nat.{◌-◌}
 use native.Mathlib.Omega.{arith}
-use Rattle.rows.specs.Rows.{Stored}
 use Rattle.rows.proofs.Rows.{stored_none, stored_more}
 use borrow.Author.Rules.{rules}
 use Rattle.stretches.proofs.clear.Goals as goal
-use Rattle.stretches.proofs.clear.Goals.{Start}
 
 pub loop-i-init : goal.loop-i-init
 loop-i-init c = (search rules, stored_none _ _ _)

@@ -1,11 +1,6 @@
 -- `stretches::clear` meets its contract. Assumes nothing.
-use lib.ListN.{length}
-use mathlib.Core.Path.{◌≡◌, refl}
 use Prim.Native.Nat.{◌-◌, ◌≤◌}
-use native.Mathlib.Omega.{arith}
 use Rattle.rows.specs.Rows.{Stored}
-use Rattle.rows.proofs.Rows.{stored_none, stored_more}
-use borrow.Author.Rules.{rules}
 use Rattle.stretches.proofs.clear.Given as goal
 
 abbrev pub invariant-loop-i : goal.invariant-loop-i

@@ -1,7 +1,6 @@
 -- `stretches::judge_and_store` meets its contract. Assumes nothing.
 use mathlib.Core.Path.{◌∙◌}
 use native.Mathlib.Omega.{arith}
-use borrow.Author.Tests.{not-true, not-false}
 use Rattle.stretches.proofs.Opened.{wanted_turned, wanted_stored}
 use borrow.Author.Rules.{rules}
 use Rattle.stretches.proofs.judge_and_store.Goals as goal

@@ -11,9 +11,8 @@ use Rattle.shape.proofs.Accepted.{shape_accepted}
 use Rattle.lists.proofs.Tests.{neither}
 use Rattle.stretches.specs.Refusals.{stretches_size_refusal}
 use Rattle.stretches.proofs.Judging.{stretches_accepted}
-use borrow.Author.Rules.{rules}
 use Rattle.stretches.proofs.judge_sizes.Goals as goal
-use Rattle.stretches.proofs.judge_sizes.Goals.{After-size-each, Else-held-due, Else-shape_bad}
+use Rattle.stretches.proofs.judge_sizes.Goals.{Else-shape_bad}
 
 pub returns-then-shape_bad : goal.returns-then-shape_bad
 unfolding stretches_size_refusal

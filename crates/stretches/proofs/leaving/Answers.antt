@@ -3,7 +3,6 @@ use Prim.Native.Nat.{◌+◌, ◌-◌, ◌%◌}
 use native.Mathlib.Nat.{mod-lt}
 use native.Mathlib.Omega.{arith}
 use Rattle.stretches.proofs.Runs.{leaving_is}
-use borrow.Author.Rules.{rules}
 use Rattle.stretches.proofs.leaving.Goals as goal
 
 pub overflow_sub-result : goal.overflow_sub-result

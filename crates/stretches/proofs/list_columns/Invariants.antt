@@ -1,13 +1,10 @@
 -- `stretches::list_columns` meets its contract. Assumes nothing.
-use mathlib.Core.Path.{◌≡◌, sym, ◌∙◌}
+use mathlib.Core.Path.{◌≡◌}
 use Prim.Native.Nat.{◌-◌, ◌≤◌}
-use native.Mathlib.Omega.{arith}
 use lib.ListN.{length}
 use Rattle.shape.specs.declared.Shape.{Shape}
 use Rattle.shape.specs.Shape.{size}
-use Rattle.stretches.proofs.Judging.{shape_small, bounded_weak, wanted_bounded}
-use Rattle.stretches.proofs.Touching.{run_touched, run_untouched, ColumnsTo, columns_none, columns_skip, columns_more, columns_end}
-use borrow.Author.Rules.{rules}
+use Rattle.stretches.proofs.Touching.{ColumnsTo}
 use Rattle.stretches.proofs.list_columns.Given as goal
 
 abbrev pub invariant-loop-at : goal.invariant-loop-at

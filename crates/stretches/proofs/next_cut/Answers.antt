@@ -1,8 +1,8 @@
 -- `stretches::next_cut` meets its contract. Assumes nothing.
 use Rattle.stretches.specs.Stretches.{stretch_start, stretch_length, stretch_count}
 use native.Mathlib.Omega.{arith}
-use Prim.Native.Nat.{◌-◌, ◌≤◌}
-use Rattle.stretches.proofs.Runs.{UncutUpto, uncut_none, uncut_more, uncut_all}
+use Prim.Native.Nat.{◌-◌}
+use Rattle.stretches.proofs.Runs.{uncut_none, uncut_more, uncut_all}
 use borrow.Author.Rules.{rules}
 use Rattle.stretches.proofs.next_cut.Goals as goal
 

@@ -2,8 +2,8 @@
 use Rattle.stretches.specs.Stretches.{stretch_start, stretch_length, stretch_count}
 use native.Mathlib.Omega.{arith}
 use Rattle.lists.proofs.Tests.{either}
-use Prim.Native.Nat.{◌-◌, ◌≤◌}
-use Rattle.stretches.proofs.Runs.{NextUpto, next_none, next_skip, next_more, next_all}
+use Prim.Native.Nat.{◌-◌}
+use Rattle.stretches.proofs.Runs.{next_none, next_skip, next_more, next_all}
 use borrow.Author.Rules.{rules}
 use Rattle.stretches.proofs.next_wanted.Goals as goal
 

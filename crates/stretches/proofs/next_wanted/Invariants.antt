@@ -1,10 +1,6 @@
 -- `stretches::next_wanted` meets its contract. Assumes nothing.
-use Rattle.stretches.specs.Stretches.{stretch_start, stretch_length, stretch_count}
-use native.Mathlib.Omega.{arith}
-use Rattle.lists.proofs.Tests.{either}
 use Prim.Native.Nat.{◌-◌, ◌≤◌}
-use Rattle.stretches.proofs.Runs.{NextUpto, next_none, next_skip, next_more, next_all}
-use borrow.Author.Rules.{rules}
+use Rattle.stretches.proofs.Runs.{NextUpto}
 use Rattle.stretches.proofs.next_wanted.Given as goal
 
 abbrev pub invariant-loop-m : goal.invariant-loop-m

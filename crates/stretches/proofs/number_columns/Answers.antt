@@ -1,12 +1,10 @@
 -- `stretches::number_columns` meets its contract. Assumes nothing.
 use mathlib.Core.Path.{◌≡◌, refl}
-use Prim.Native.Nat.{◌+◌, ◌-◌, ◌≤◌}
+use Prim.Native.Nat.{◌-◌}
 use native.Mathlib.Omega.{arith}
-use Rattle.rows.specs.Rows.{Stored}
 use Rattle.rows.proofs.Rows.{stored_none, stored_more}
 use borrow.Author.Rules.{rules}
 use Rattle.stretches.proofs.number_columns.Goals as goal
-use Rattle.stretches.proofs.number_columns.Goals.{Start}
 
 pub loop-i-init : goal.loop-i-init
 loop-i-init c = (search rules, stored_none _ _ _)

@@ -2,9 +2,8 @@
 use Rattle.stretches.proofs.Runs.{next_later}
 use mathlib.Core.Path.{◌≡◌, sym, ◌∙◌}
 use mathlib.Core.Bool.{true}
-use Prim.Native.Nat.{◌-◌, ◌%◌, ◌^◌, ◌≤◌, ◌<◌}
+use Prim.Native.Nat.{◌-◌, ◌%◌, ◌^◌}
 use native.Mathlib.Omega.{arith}
-use borrow.Author.Tests.{not-true, not-false}
 use lib.ListN.{length, take}
 use lib.Seq.{length-take-le, get_or-take}
 use Rattle.shape.proofs.Accepted.{shape_accepted}
@@ -13,9 +12,9 @@ use Rattle.opening.specs.Steps.{opened, Walked}
 use Rattle.stretches.specs.Steps.{Wanted, byte_at, ComeOut}
 use Rattle.stretches.proofs.Judging.{shape_small, bounded_weak, wanted_bounded}
 use Rattle.stretches.proofs.Rows.{run_fits, run_whole, run_low, run_factors}
-use Rattle.stretches.proofs.Walks.{RunsBefore, runs_none, runs_more, runs_end, runs_all}
+use Rattle.stretches.proofs.Walks.{runs_none, runs_more, runs_end, runs_all}
 use Rattle.stretches.proofs.open_rows.Goals as goal
-use Rattle.stretches.proofs.open_rows.Goals.{After-data_row-row, After-place_row, In-loop-b, Start}
+use Rattle.stretches.proofs.open_rows.Goals.{After-data_row-row, After-place_row, In-loop-b}
 
 -- a run's first byte
 at : (c : In-loop-b) → let a = c.args in (c.loop-b.b % 2 ^ a.s.n ≡ a.a) × Wanted a.stretches.now c.loop-b.b
@@ -66,7 +65,7 @@ data_row-row-requires c =
     let g = p.legible.0 in
     let f = at c in
     let h = rw c.size.ensures at c.loop-b-test.true in
-    record { s_value = (g.shape, g.up, g.count, p.legible.1, h, p.legible.3, run_fits _ _ _ _ g _ _ p.legible.4 _ f.1 f.0); table_len = (p.table_len.0, p.table_len.1, g.long, run_low _ _ _ _ g _ _ p.legible.4 _ f.1 f.0) }
+    record { placed = (g.shape, g.up, g.count, p.legible.1, h, p.legible.3, run_fits _ _ _ _ g _ _ p.legible.4 _ f.1 f.0); table_len = (p.table_len.0, p.table_len.1, g.long, run_low _ _ _ _ g _ _ p.legible.4 _ f.1 f.0) }
 
 pub slice_bounds-row-end : goal.slice_bounds-row-end
 slice_bounds-row-end c = omega (arith, c.data_row-row.ensures.0, c.requires.legible.3)

@@ -1,19 +1,10 @@
 -- `stretches::open_rows` meets its contract. Assumes nothing.
-use Rattle.stretches.proofs.Runs.{next_later}
-use mathlib.Core.Path.{◌≡◌, sym, ◌∙◌}
+use mathlib.Core.Path.{◌≡◌}
 use mathlib.Core.Bool.{true}
 use Prim.Native.Nat.{◌-◌, ◌%◌, ◌^◌, ◌≤◌, ◌<◌}
-use native.Mathlib.Omega.{arith}
-use borrow.Author.Tests.{not-true, not-false}
-use lib.ListN.{length, take}
-use lib.Seq.{length-take-le, get_or-take}
-use Rattle.shape.proofs.Accepted.{shape_accepted}
-use Rattle.filling.specs.Filling.{InRun}
 use Rattle.opening.specs.Steps.{opened, Walked}
 use Rattle.stretches.specs.Steps.{Wanted, byte_at, ComeOut}
-use Rattle.stretches.proofs.Judging.{shape_small, bounded_weak, wanted_bounded}
-use Rattle.stretches.proofs.Rows.{run_fits, run_whole, run_low, run_factors}
-use Rattle.stretches.proofs.Walks.{RunsBefore, runs_none, runs_more, runs_end, runs_all}
+use Rattle.stretches.proofs.Walks.{RunsBefore}
 use Rattle.stretches.proofs.open_rows.Given as goal
 
 abbrev pub invariant-loop-b : goal.invariant-loop-b

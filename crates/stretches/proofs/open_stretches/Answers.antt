@@ -14,7 +14,6 @@ use Rattle.stretches.specs.Stretches.{symbols_read}
 use Rattle.stretches.specs.Refusals.{touched_bad, stretches_refusal}
 use Rattle.stretches.proofs.Judging.{shape_small}
 use Rattle.stretches.proofs.Promised.{Sized, sizes_accepted, sizes_turned, sized_legible, refused_five, refused_seven, refused_none, opens_refused, opens_done}
-use borrow.Author.Rules.{rules}
 use Rattle.stretches.proofs.open_stretches.Goals as goal
 use Rattle.stretches.proofs.open_stretches.Goals.{Else-touched_bad, In-Done}
 

@@ -1,7 +1,7 @@
 -- `stretches::past_end` meets its contract. Assumes nothing.
 use Rattle.stretches.specs.Stretches.{stretch_start, stretch_length, stretch_count}
 use native.Mathlib.Omega.{arith}
-use Prim.Native.Nat.{ℕ, ◌-◌, ◌≤◌, ◌<◌}
+use Prim.Native.Nat.{◌-◌}
 use Rattle.lists.proofs.Tests.{each_more}
 use Rattle.stretches.proofs.Judging.{EndWithin, none_past, one_past}
 use borrow.Author.Rules.{rules}

@@ -1,10 +1,6 @@
 -- `stretches::past_end` meets its contract. Assumes nothing.
-use Rattle.stretches.specs.Stretches.{stretch_start, stretch_length, stretch_count}
-use native.Mathlib.Omega.{arith}
 use Prim.Native.Nat.{ℕ, ◌-◌, ◌≤◌, ◌<◌}
-use Rattle.lists.proofs.Tests.{each_more}
-use Rattle.stretches.proofs.Judging.{EndWithin, none_past, one_past}
-use borrow.Author.Rules.{rules}
+use Rattle.stretches.proofs.Judging.{EndWithin}
 use Rattle.stretches.proofs.past_end.Given as goal
 
 abbrev pub invariant-loop-m : goal.invariant-loop-m

@@ -1,6 +1,5 @@
 -- `stretches::place_row` meets its contract. Assumes nothing.
 use mathlib.Core.Path.{refl, ap, ◌∙◌}
-use borrow.Author.Tests.{not-true, not-false}
 use Rattle.stretches.proofs.Runs.{not_in}
 use borrow.Author.Tests.{ltb-false, leb-false}
 use Rattle.lists.proofs.Tests.{neither, either}
@@ -10,16 +9,16 @@ use mathlib.Core.Path.{◌≡◌}
 use Prim.Native.Nat.{ℕ, ◌+◌, ◌-◌, ◌≤◌, ◌<◌}
 use native.Mathlib.Omega.{arith}
 use lib.ListN.{length, get_or}
-use Rattle.opening.specs.Steps.{Walked, OneOf}
+use Rattle.opening.specs.Steps.{Walked}
 use Rattle.opening.proofs.Walking.{walked_none, walked_skip, walked_on, walked_ends}
-use Rattle.stretches.specs.Stretches.{stretch_start, stretch_length, stretch_count, bytes_before}
+use Rattle.stretches.specs.Stretches.{stretch_start, stretch_length, stretch_count}
 use Rattle.stretches.specs.Steps.{InStretch, byte_at}
 use Rattle.stretches.proofs.Wanted.{before_none, before_more}
 use Rattle.stretches.proofs.Judging.{before_small}
 use Rattle.stretches.proofs.Walks.{AtStretch, stretch_walked, run_walked}
 use borrow.Author.Rules.{rules}
 use Rattle.stretches.proofs.place_row.Goals as goal
-use Rattle.stretches.proofs.place_row.Goals.{After-open_row, Else-b-start, In-loop-m, Start}
+use Rattle.stretches.proofs.place_row.Goals.{After-open_row, Else-b-start, In-loop-m}
 
 -- the stretch's end, and the bytes before it, are few
 few : (c : In-loop-m) → let a = c.args in
@@ -65,8 +64,7 @@ overflow_add-at c = let f = few (goal.at.overflow_add-at c).In-loop-m in omega (
 pub loop-m-preserved-then-b-start : goal.loop-m-preserved-then-b-start
 unfolding stretch_start stretch_length stretch_count
 loop-m-preserved-then-b-start c =
-    let l = c.loop-m in
-    (
+    let l = c.loop-m in (
       search rules,
       omega (arith, l.invariant.1, before_more c.args.stretches.now l.m),
       l.invariant.2,
@@ -103,12 +101,12 @@ overflow_add-at-in-loop-m-2 c = let f = few (goal.at.overflow_add-at-in-loop-m-2
 pub loop-m-preserved : goal.loop-m-preserved
 unfolding stretch_start stretch_length stretch_count
 loop-m-preserved c = let l = c.loop-m in (
-      search rules,
-      omega (arith, l.invariant.1, before_more c.args.stretches.now l.m),
-      kept (goal.at.loop-m-preserved c).After-open_row,
-      λ D same.
-          walked_on _ _ _ _ _ l.m _ (l.invariant.3 D same) _ _ (walked (goal.at.loop-m-preserved c).After-open_row D same) c.if-not-open_row.false,
-    )
+  search rules,
+  omega (arith, l.invariant.1, before_more c.args.stretches.now l.m),
+  kept (goal.at.loop-m-preserved c).After-open_row,
+  λ D same.
+      walked_on _ _ _ _ _ l.m _ (l.invariant.3 D same) _ _ (walked (goal.at.loop-m-preserved c).After-open_row D same) c.if-not-open_row.false,
+)
 
 pub shape_of-bytes : goal.shape_of-bytes
 shape_of-bytes c = c.loop-m.invariant.2

@@ -1,23 +1,12 @@
 -- `stretches::place_row` meets its contract. Assumes nothing.
-use mathlib.Core.Path.{refl, ap, ◌∙◌}
-use borrow.Author.Tests.{not-true, not-false}
-use Rattle.stretches.proofs.Runs.{not_in}
-use borrow.Author.Tests.{ltb-false, leb-false}
-use Rattle.lists.proofs.Tests.{neither, either}
-use Prim.Native.Nat.{◌*◌, ◌^◌}
 use mathlib.Core.Bool.{true}
 use mathlib.Core.Path.{◌≡◌}
 use Prim.Native.Nat.{ℕ, ◌+◌, ◌-◌, ◌≤◌, ◌<◌}
-use native.Mathlib.Omega.{arith}
 use lib.ListN.{length, get_or}
 use Rattle.opening.specs.Steps.{Walked, OneOf}
-use Rattle.opening.proofs.Walking.{walked_none, walked_skip, walked_on, walked_ends}
-use Rattle.stretches.specs.Stretches.{stretch_start, stretch_length, stretch_count, bytes_before}
-use Rattle.stretches.specs.Steps.{InStretch, byte_at}
-use Rattle.stretches.proofs.Wanted.{before_none, before_more}
-use Rattle.stretches.proofs.Judging.{before_small}
-use Rattle.stretches.proofs.Walks.{AtStretch, stretch_walked, run_walked}
-use borrow.Author.Rules.{rules}
+use Rattle.stretches.specs.Stretches.{bytes_before}
+use Rattle.stretches.specs.Steps.{byte_at}
+use Rattle.stretches.proofs.Walks.{AtStretch}
 use Rattle.stretches.proofs.place_row.Given as goal
 
 abbrev pub invariant-loop-m : goal.invariant-loop-m

@@ -1,10 +1,10 @@
 -- `stretches::position` meets its contract. Assumes nothing.
 use mathlib.Core.Logic.{◌≢◌}
 use Prim.Native.Nat.{ℕ}
-use Prim.Native.Nat.{◌-◌, ◌≤◌}
+use Prim.Native.Nat.{◌-◌}
 use mathlib.Core.Path.{ap, ◌∙◌}
 use native.Mathlib.Omega.{arith}
-use lib.ListN.{length, get_or}
+use lib.ListN.{get_or}
 use Rattle.lists.specs.Lists.{position}
 use Rattle.lists.proofs.Members.{at_position}
 use Rattle.stretches.proofs.position.Goals as goal

@@ -10,7 +10,7 @@ use lib.ListN.{get_or}
 use Rattle.code.specs.Code.{narrow}
 use borrow.Author.Rules.{rules}
 use Rattle.stretches.proofs.run_bad.Goals as goal
-use Rattle.stretches.proofs.run_bad.Goals.{In-loop-j, Start}
+use Rattle.stretches.proofs.run_bad.Goals.{In-loop-j}
 
 -- the runs lie among the symbols
 within : (c : In-loop-j) → let a = c.args in c.loop-j.j * a.each + a.end ≤ a.k * a.each

@@ -1,14 +1,7 @@
 -- `stretches::run_bad` meets its contract. Assumes nothing.
-use mathlib.Core.Bool.{true≢false, false≢true}
-use mathlib.Core.Path.{◌≡◌, sym, ◌∙◌}
-use native.Mathlib.Decide.{ℕ_discrete}
-use Rattle.filling.proofs.Filling.{row_room}
-use Rattle.stretches.proofs.Judging.{part_low, low_part}
 use Prim.Native.Nat.{ℕ, ◌+◌, ◌-◌, ◌*◌, ◌≤◌, ◌<◌}
-use native.Mathlib.Omega.{arith}
 use lib.ListN.{get_or}
 use Rattle.code.specs.Code.{narrow}
-use borrow.Author.Rules.{rules}
 use Rattle.stretches.proofs.run_bad.Given as goal
 
 abbrev pub invariant-loop-j : goal.invariant-loop-j

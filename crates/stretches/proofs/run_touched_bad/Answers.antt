@@ -6,7 +6,6 @@ use Rattle.code.specs.Archive.{symbol}
 use Rattle.stretches.proofs.Judging.{shape_small, wanted_bounded}
 use Rattle.stretches.proofs.Touching.{run_touched, run_untouched}
 use Rattle.stretches.proofs.run_touched_bad.Goals as goal
-use Rattle.stretches.proofs.run_touched_bad.Goals.{After-size-each}
 
 pub size-each-requires : goal.size-each-requires
 size-each-requires c = c.requires.0

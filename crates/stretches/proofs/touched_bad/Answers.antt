@@ -3,7 +3,6 @@ use mathlib.Core.Path.{◌≡◌, sym}
 use mathlib.Core.Bool.{true}
 use Prim.Native.Nat.{ℕ, ◌-◌, ◌≤◌, ◌<◌}
 use native.Mathlib.Omega.{arith}
-use Rattle.shape.specs.Shape.{size}
 use Rattle.code.specs.Code.{narrow}
 use Rattle.code.specs.Archive.{symbol}
 use Rattle.lists.proofs.Tests.{below_or_not}
@@ -12,7 +11,6 @@ use Rattle.stretches.specs.Stretches.{touched}
 use Rattle.stretches.proofs.Judging.{shape_small, bounded_weak, touched_low, touched_high}
 use borrow.Author.Rules.{rules}
 use Rattle.stretches.proofs.touched_bad.Goals as goal
-use Rattle.stretches.proofs.touched_bad.Goals.{After-size-each}
 
 pub size-each-requires : goal.size-each-requires
 size-each-requires c = c.requires.0

@@ -1,16 +1,10 @@
 -- `stretches::touched_bad` meets its contract. Assumes nothing.
-use mathlib.Core.Path.{◌≡◌, sym}
+use mathlib.Core.Path.{◌≡◌}
 use mathlib.Core.Bool.{true}
 use Prim.Native.Nat.{ℕ, ◌-◌, ◌≤◌, ◌<◌}
-use native.Mathlib.Omega.{arith}
-use Rattle.shape.specs.Shape.{size}
 use Rattle.code.specs.Code.{narrow}
 use Rattle.code.specs.Archive.{symbol}
-use Rattle.lists.proofs.Tests.{below_or_not}
-use mathlib.Core.Logic.{◌⊎◌, inl, inr}
 use Rattle.stretches.specs.Stretches.{touched}
-use Rattle.stretches.proofs.Judging.{shape_small, bounded_weak, touched_low, touched_high}
-use borrow.Author.Rules.{rules}
 use Rattle.stretches.proofs.touched_bad.Given as goal
 
 abbrev pub invariant-loop-at : goal.invariant-loop-at

@@ -1,35 +1,33 @@
 -- `tables::all_rows` meets its contract. Assumes nothing.
 use mathlib.Core.Path.{◌≡◌, sym, ◌∙◌, subst}
 use mathlib.Core.Bool.{false}
-use mathlib.Core.List.{List}
-use Prim.Native.Nat.{ℕ, ◌-◌, ◌≤◌}
+use Prim.Native.Nat.{◌-◌}
 use native.Mathlib.Omega.{arith}
-use lib.ListN.{length, get_or}
-use Rattle.tables.specs.Tables.{table_size, PointRows, Columns, TableOver}
+use lib.ListN.{get_or}
+use Rattle.tables.specs.Tables.{TableOver}
 use Rattle.tables.proofs.Tables.{table_none, table_skip, table_more}
 use borrow.Author.Rules.{rules}
 use Rattle.tables.proofs.all_rows.Goals as goal
-use Rattle.tables.proofs.all_rows.Goals.{Start}
 
 pub loop-i-init : goal.loop-i-init
-loop-i-init c = (search rules, c.requires.marks.2, λ P col w. table_none _ _ c.requires.n_le_most_entries.2 _ _ _ c.requires.marks.2 c.requires.marks.3)
+loop-i-init c = (search rules, c.requires.marks.2, λ P col w. table_none _ _ c.requires.sizes.2 _ _ _ c.requires.marks.2 c.requires.marks.3)
 
 pub loop-i-preserved-then-skipped-i : goal.loop-i-preserved-then-skipped-i
 loop-i-preserved-then-skipped-i c =
-    let l = c.loop-i in (search rules, l.invariant.1, λ P col w. table_skip _ _ c.requires.n_le_most_entries.2 _ _ l.i _ (l.invariant.2 P col w) c.if-skipped-i.true)
+    let l = c.loop-i in (search rules, l.invariant.1, λ P col w. table_skip _ _ c.requires.sizes.2 _ _ l.i _ (l.invariant.2 P col w) c.if-skipped-i.true)
 
 pub entry_rows-requires : goal.entry_rows-requires
 entry_rows-requires c =
     let l = c.loop-i in
     let p = c.requires in
-    (p.n_le_most_entries.0, p.n_le_most_entries.2, p.n_le_most_entries.3, p.n_le_most_entries.4, p.n_le_most_entries.5, omega arith, l.invariant.1, p.marks.1 l.i (omega arith) c.if-skipped-i.false, p.n_le_most_entries.6)
+    (p.sizes.0, p.sizes.2, p.sizes.3, p.sizes.4, p.sizes.5, omega arith, l.invariant.1, p.marks.1 l.i (omega arith) c.if-skipped-i.false, p.sizes.6)
 
 pub loop-i-preserved : goal.loop-i-preserved
 loop-i-preserved c =
     let l = c.loop-i in
     let p = c.requires in
     let w = c.entry_rows.ensures in
-    (omega arith, w.0 ∙ l.invariant.1, λ P col r. table_more _ _ p.n_le_most_entries.2 _ _ l.i _ _ w.0 (l.invariant.2 P col r) (w.1 P col r p.marks.0))
+    (omega arith, w.0 ∙ l.invariant.1, λ P col r. table_more _ _ p.sizes.2 _ _ l.i _ _ w.0 (l.invariant.2 P col r) (w.1 P col r p.marks.0))
 
 pub shape_of-table : goal.shape_of-table
 shape_of-table c = c.loop-i.invariant.1 ∙ sym c.requires.marks.2

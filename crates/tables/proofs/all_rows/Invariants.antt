@@ -1,13 +1,10 @@
 -- `tables::all_rows` meets its contract. Assumes nothing.
-use mathlib.Core.Path.{◌≡◌, sym, ◌∙◌, subst}
+use mathlib.Core.Path.{◌≡◌}
 use mathlib.Core.Bool.{false}
 use mathlib.Core.List.{List}
 use Prim.Native.Nat.{ℕ, ◌-◌, ◌≤◌}
-use native.Mathlib.Omega.{arith}
 use lib.ListN.{length, get_or}
 use Rattle.tables.specs.Tables.{table_size, PointRows, Columns, TableOver}
-use Rattle.tables.proofs.Tables.{table_none, table_skip, table_more}
-use borrow.Author.Rules.{rules}
 use Rattle.tables.proofs.all_rows.Given as goal
 
 abbrev pub invariant-loop-i : goal.invariant-loop-i

@@ -1,12 +1,11 @@
 -- `tables::differences` meets its contract. Assumes nothing.
 use mathlib.Core.Path.{◌≡◌, subst}
-use Prim.Native.Nat.{◌-◌, ◌≤◌}
+use Prim.Native.Nat.{◌-◌}
 use native.Mathlib.Omega.{arith}
 use Rattle.tables.specs.Tables.{DifferenceRow}
 use Rattle.tables.proofs.Tables.{differences_start, differences_skip, differences_more}
 use borrow.Author.Rules.{rules}
 use Rattle.tables.proofs.differences.Goals as goal
-use Rattle.tables.proofs.differences.Goals.{Start}
 
 pub loop-m-init : goal.loop-m-init
 loop-m-init c =
@@ -24,8 +23,7 @@ scale-requires c =
 
 pub loop-m-preserved : goal.loop-m-preserved
 loop-m-preserved c =
-    let l = c.loop-m in
-    (
+    let l = c.loop-m in (
       search rules,
       differences_more _ _ c.requires.1 _ _ _ _ l.m l.out (omega arith) l.invariant.1 _ c.requires.4 c.if-marked-m.false c.scale.ensures,
     )

@@ -1,16 +1,15 @@
 -- `tables::entry_rows` meets its contract. Assumes nothing.
 use mathlib.Core.Path.{◌≡◌, refl, ◌∙◌}
-use mathlib.Core.List.{List}
-use Prim.Native.Nat.{ℕ, ◌+◌, ◌-◌, ◌*◌, ◌≤◌}
+use Prim.Native.Nat.{◌+◌, ◌-◌, ◌*◌, ◌≤◌}
 use native.Mathlib.Omega.{arith}
 use lib.ListN.{length}
 use Rattle.lists.proofs.Members.{rising_below}
 use Rattle.rows.specs.Rows.{most_places}
-use Rattle.tables.specs.Tables.{table_size, PointRows, Columns, Marks, RowsOver}
+use Rattle.tables.specs.Tables.{table_size}
 use Rattle.tables.proofs.Tables.{rows_none, rows_more, entry_room}
 use borrow.Author.Rules.{rules}
 use Rattle.tables.proofs.entry_rows.Goals as goal
-use Rattle.tables.proofs.entry_rows.Goals.{After-differences-tops, Start}
+use Rattle.tables.proofs.entry_rows.Goals.{After-differences-tops}
 
 pub differences-bottoms-requires : goal.differences-bottoms-requires
 differences-bottoms-requires c =
@@ -21,13 +20,12 @@ inverses-inverted-requires c =
     (search rules, c.requires.1, c.differences-bottoms.ensures.long)
 
 pub loop-j-init : goal.loop-j-init
-loop-j-init c =
-    (
-      search rules,
-      refl,
-      λ P col w v. rows_none _ _ c.requires.1 _ _ _ c.requires.4 _ c.requires.5 c.requires.7 _ _ c.inverses-inverted.ensures.0 c.differences-bottoms.ensures
-          c.inverses-inverted.ensures.1 P col w v _,
-    )
+loop-j-init c = (
+  search rules,
+  refl,
+  λ P col w v. rows_none _ _ c.requires.1 _ _ _ c.requires.4 _ c.requires.5 c.requires.7 _ _ c.inverses-inverted.ensures.0 c.differences-bottoms.ensures
+      c.inverses-inverted.ensures.1 P col w v _,
+)
 
 pub differences-tops-requires : goal.differences-tops-requires
 differences-tops-requires c =
@@ -54,8 +52,7 @@ overflow_mul-i-in-loop-j c =
 
 pub quotients-requires : goal.quotients-requires
 quotients-requires c =
-    let l = c.loop-j in
-    (
+    let l = c.loop-j in (
       search rules,
       search rules,
       c.requires.1,
@@ -66,8 +63,7 @@ quotients-requires c =
 
 pub loop-j-preserved : goal.loop-j-preserved
 loop-j-preserved c =
-    let l = c.loop-j in
-    (
+    let l = c.loop-j in (
       search rules,
       c.quotients.ensures.long ∙ l.invariant.1,
       λ P col w v. rows_more _ _ c.requires.1 _ _ _ c.requires.4 _ c.requires.5 c.requires.7 _ _ c.inverses-inverted.ensures.0 c.differences-bottoms.ensures

@@ -1,14 +1,9 @@
 -- `tables::entry_rows` meets its contract. Assumes nothing.
-use mathlib.Core.Path.{◌≡◌, refl, ◌∙◌}
+use mathlib.Core.Path.{◌≡◌}
 use mathlib.Core.List.{List}
-use Prim.Native.Nat.{ℕ, ◌+◌, ◌-◌, ◌*◌, ◌≤◌}
-use native.Mathlib.Omega.{arith}
+use Prim.Native.Nat.{ℕ, ◌-◌, ◌≤◌}
 use lib.ListN.{length}
-use Rattle.lists.proofs.Members.{rising_below}
-use Rattle.rows.specs.Rows.{most_places}
-use Rattle.tables.specs.Tables.{table_size, PointRows, Columns, Marks, RowsOver}
-use Rattle.tables.proofs.Tables.{rows_none, rows_more, entry_room}
-use borrow.Author.Rules.{rules}
+use Rattle.tables.specs.Tables.{PointRows, Columns, Marks, RowsOver}
 use Rattle.tables.proofs.entry_rows.Given as goal
 
 abbrev pub invariant-loop-j : goal.invariant-loop-j

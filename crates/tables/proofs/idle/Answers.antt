@@ -1,9 +1,9 @@
 -- `tables::idle` meets its contract. Assumes nothing.
 use mathlib.Core.Path.{◌≡◌, ap, ◌∙◌}
 use mathlib.Core.Bool.{Bool, false, not}
-use Prim.Native.Nat.{ℕ, ◌-◌, ◌≤◌, ◌<◌}
+use Prim.Native.Nat.{◌-◌}
 use native.Mathlib.Omega.{arith}
-use lib.ListN.{length, get_or, length-set, get_or-replicate}
+use lib.ListN.{length-set, get_or-replicate}
 use lib.Seq.{get_or-set_other}
 use Rattle.lists.specs.Lists.{member}
 use Rattle.lists.proofs.Stores.{stored_more}

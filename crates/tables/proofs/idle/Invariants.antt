@@ -1,14 +1,10 @@
 -- `tables::idle` meets its contract. Assumes nothing.
-use mathlib.Core.Path.{◌≡◌, ap, ◌∙◌}
-use mathlib.Core.Bool.{Bool, false, not}
+use mathlib.Core.Path.{◌≡◌}
+use mathlib.Core.Bool.{false, not}
 use Prim.Native.Nat.{ℕ, ◌-◌, ◌≤◌, ◌<◌}
-use native.Mathlib.Omega.{arith}
-use lib.ListN.{length, get_or, length-set, get_or-replicate}
-use lib.Seq.{get_or-set_other}
+use lib.ListN.{length, get_or}
 use Rattle.lists.specs.Lists.{member}
-use Rattle.lists.proofs.Stores.{stored_more}
 use Rattle.tables.specs.Tables.{flags}
-use borrow.Author.Rules.{rules}
 use Rattle.tables.proofs.idle.Given as goal
 
 abbrev pub invariant-loop-i : goal.invariant-loop-i

@@ -1,12 +1,11 @@
 -- `tables::marks` meets its contract. Assumes nothing.
 use mathlib.Core.Path.{◌≡◌}
 use mathlib.Core.Bool.{false}
-use Prim.Native.Nat.{ℕ, ◌-◌, ◌≤◌, ◌<◌}
+use Prim.Native.Nat.{◌-◌}
 use native.Mathlib.Omega.{arith}
-use lib.ListN.{length, get_or, length-set}
+use lib.ListN.{length-set}
 use Rattle.lists.specs.Lists.{member}
 use Rattle.lists.proofs.Stores.{stored_more}
-use Rattle.tables.specs.Tables.{flags}
 use borrow.Author.Rules.{rules}
 use Rattle.tables.proofs.marks.Goals as goal
 

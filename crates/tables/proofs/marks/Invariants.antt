@@ -2,12 +2,9 @@
 use mathlib.Core.Path.{◌≡◌}
 use mathlib.Core.Bool.{false}
 use Prim.Native.Nat.{ℕ, ◌-◌, ◌≤◌, ◌<◌}
-use native.Mathlib.Omega.{arith}
-use lib.ListN.{length, get_or, length-set}
+use lib.ListN.{length, get_or}
 use Rattle.lists.specs.Lists.{member}
-use Rattle.lists.proofs.Stores.{stored_more}
 use Rattle.tables.specs.Tables.{flags}
-use borrow.Author.Rules.{rules}
 use Rattle.tables.proofs.marks.Given as goal
 
 abbrev pub invariant-loop-i : goal.invariant-loop-i

@@ -1,16 +1,13 @@
 -- `tables::multipliers` meets its contract. Assumes nothing.
 use mathlib.Core.Path.{◌≡◌, refl, ap}
-use Prim.Native.Nat.{ℕ, ◌+◌, ◌-◌, ◌≤◌, ◌<◌}
+use Prim.Native.Nat.{◌+◌, ◌-◌}
 use native.Mathlib.Omega.{arith}
-use lib.ListN.{length, length-set}
-use Rattle.lists.specs.Lists.{element}
+use lib.ListN.{length-set}
 use Rattle.lists.proofs.Stores.{stored_more}
 use Rattle.code.specs.Code.{narrow, points}
-use Rattle.rows.specs.Rows.{most_places}
 use Rattle.tables.proofs.Tables.{table_same}
 use borrow.Author.Rules.{rules}
 use Rattle.tables.proofs.multipliers.Goals as goal
-use Rattle.tables.proofs.multipliers.Goals.{Start}
 
 pub loop-t-init : goal.loop-t-init
 loop-t-init c = (search rules, search rules, λ k h. absurd (omega arith))

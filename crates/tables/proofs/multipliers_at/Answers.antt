@@ -7,9 +7,7 @@ use Rattle.code.specs.Code.{narrow}
 use Rattle.rows.proofs.Rows.{low_replicate}
 use Rattle.tables.specs.Tables.{points_size}
 use Rattle.tables.proofs.Tables.{node_columns, nodes_room, table_same}
-use borrow.Author.Rules.{rules}
 use Rattle.tables.proofs.multipliers_at.Goals as goal
-use Rattle.tables.proofs.multipliers_at.Goals.{Start}
 
 pub point_rows-requires : goal.point_rows-requires
 point_rows-requires c = (c.requires.0, c.requires.2, c.requires.3, refl, low_replicate narrow.modulus points_size 0 (omega arith))
@@ -17,7 +15,7 @@ point_rows-requires c = (c.requires.0, c.requires.2, c.requires.3, refl, low_rep
 pub all_rows-requires : goal.all_rows-requires
 all_rows-requires c =
     let w = c.point_rows.ensures in
-    record { n_le_most_entries = (omega arith, c.requires.1, c.requires.2, w.long, w.low, c.requires.4, nodes_room _ _ c.requires.0 (rising_fits _ _ c.requires.4)); marks = (c.requires.5, λ i h e. e, c.requires.6, c.requires.7) }
+    record { sizes = (omega arith, c.requires.1, c.requires.2, w.long, w.low, c.requires.4, nodes_room _ _ c.requires.0 (rising_fits _ _ c.requires.4)); marks = (c.requires.5, λ i h e. e, c.requires.6, c.requires.7) }
 
 pub returns : goal.returns
 returns c =

@@ -1,14 +1,11 @@
 -- `tables::point_row` meets its contract. Assumes nothing.
 use mathlib.Core.Path.{◌≡◌}
-use Prim.Native.Nat.{◌-◌, ◌≤◌}
+use Prim.Native.Nat.{◌-◌}
 use native.Mathlib.Omega.{arith}
-use Rattle.lists.specs.Lists.{element}
-use Rattle.rows.specs.Rows.{Stored}
 use Rattle.rows.proofs.Rows.{stored_none, stored_more}
 use Rattle.tables.specs.Tables.{point_of}
 use borrow.Author.Rules.{rules}
 use Rattle.tables.proofs.point_row.Goals as goal
-use Rattle.tables.proofs.point_row.Goals.{Start}
 
 pub loop-t-init : goal.loop-t-init
 loop-t-init c = (search rules, stored_none _ _ _)

@@ -1,12 +1,8 @@
 -- `tables::point_row` meets its contract. Assumes nothing.
-use mathlib.Core.Path.{◌≡◌}
 use Prim.Native.Nat.{◌-◌, ◌≤◌}
-use native.Mathlib.Omega.{arith}
 use Rattle.lists.specs.Lists.{element}
 use Rattle.rows.specs.Rows.{Stored}
-use Rattle.rows.proofs.Rows.{stored_none, stored_more}
 use Rattle.tables.specs.Tables.{point_of}
-use borrow.Author.Rules.{rules}
 use Rattle.tables.proofs.point_row.Given as goal
 
 abbrev pub invariant-loop-t : goal.invariant-loop-t

@@ -1,13 +1,12 @@
 -- `tables::point_rows` meets its contract. Assumes nothing.
 use mathlib.Core.Path.{◌≡◌, sym, subst, ◌∙◌}
-use Prim.Native.Nat.{◌-◌, ◌≤◌}
+use Prim.Native.Nat.{◌-◌}
 use native.Mathlib.Omega.{arith}
 use Rattle.lists.specs.Lists.{element}
 use Rattle.tables.specs.Tables.{node_points, PointRows}
 use Rattle.tables.proofs.Tables.{point_rows_none, point_rows_more, point_is}
 use borrow.Author.Rules.{rules}
 use Rattle.tables.proofs.point_rows.Goals as goal
-use Rattle.tables.proofs.point_rows.Goals.{Start}
 
 pub loop-node-init : goal.loop-node-init
 loop-node-init c = (search rules, point_rows_none _ _ _ c.requires.3 c.requires.4)

@@ -1,7 +1,6 @@
 -- `transfers::ending` meets its contract: the end of the line where no number is left. Assumes nothing.
 use mathlib.Core.Path.{sym}
 use native.Mathlib.Omega.{arith}
-use Rattle.transfers.specs.Plan.{ending}
 use Rattle.transfers.proofs.Decimals.{ending_none, ending_some}
 use Rattle.transfers.proofs.ending.Goals as goal
 

@@ -1,6 +1,5 @@
 -- `transfers::other_rank` meets its contract: the test is the definition's. Assumes nothing.
 use mathlib.Core.Path.{sym}
-use borrow.Author.Rules.{rules}
 use Rattle.lists.proofs.Tests.{cond_below, cond_beyond}
 use Rattle.classes.specs.Steps.{other_rank}
 use Rattle.transfers.proofs.other_rank.Goals as goal

@@ -1,11 +1,11 @@
 -- `transfers::write_line` meets its contract: the numbers from number i on are still to be written, at the place. Assumes nothing.
-use Prim.Native.Nat.{◌-◌, ◌≤◌, ◌<◌}
+use Prim.Native.Nat.{◌-◌, ◌<◌}
 use native.Mathlib.Omega.{arith}
 use borrow.Author.Rules.{rules}
 use lib.ListN.{length}
-use Rattle.transfers.proofs.Lines.{Line, line_start, line_done, number_room, ending_inside, line_step}
+use Rattle.transfers.proofs.Lines.{line_start, line_done, number_room, ending_inside, line_step}
 use Rattle.transfers.proofs.write_line.Goals as goal
-use Rattle.transfers.proofs.write_line.Goals.{After-ending, At-loop-i}
+use Rattle.transfers.proofs.write_line.Goals.{After-ending}
 
 pub loop-i-init : goal.loop-i-init
 loop-i-init c = (search rules, line_start _ _ _)

@@ -1,9 +1,7 @@
 -- `transfers::write_line` meets its contract: the numbers from number i on are still to be written, at the place. Assumes nothing.
-use Prim.Native.Nat.{◌-◌, ◌≤◌, ◌<◌}
-use native.Mathlib.Omega.{arith}
-use borrow.Author.Rules.{rules}
+use Prim.Native.Nat.{◌-◌, ◌≤◌}
 use lib.ListN.{length}
-use Rattle.transfers.proofs.Lines.{Line, line_start, line_done, number_room, ending_inside, line_step}
+use Rattle.transfers.proofs.Lines.{Line}
 use Rattle.transfers.proofs.write_line.Given as goal
 
 abbrev pub invariant-loop-i : goal.invariant-loop-i

@@ -2,12 +2,11 @@
 use mathlib.Core.Path.{◌≡◌, ap}
 use Prim.Native.Nat.{◌+◌, ◌/◌}
 use native.Mathlib.Omega.{arith}
-use borrow.Author.Rules.{rules}
 use lib.ListN.{length}
 use Rattle.classes.specs.Classes.{message_size}
 use Rattle.transfers.proofs.Room.{senders_high, count_high, total_high, few_listed, first_room, transfers_room, total_room_lem, plan_put}
 use Rattle.transfers.proofs.write_plan.Goals as goal
-use Rattle.transfers.proofs.write_plan.Goals.{After-size, After-write_line-at, After-write_transfers-behind, Start}
+use Rattle.transfers.proofs.write_plan.Goals.{After-size}
 
 -- the symbols of a message
 sized : (c : After-size) →

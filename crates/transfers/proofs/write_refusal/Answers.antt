@@ -1,6 +1,5 @@
 -- `transfers::write_refusal` meets its contract: the line of the cause's number. Assumes nothing.
 use native.Mathlib.Omega.{arith}
-use borrow.Author.Rules.{rules}
 use Rattle.transfers.proofs.Room.{refusal_fits, number_small}
 use Rattle.transfers.proofs.write_refusal.Goals as goal
 

@@ -8,9 +8,9 @@ use lib.ListN.{length}
 use Rattle.shape.specs.Shape.{most_nodes}
 use Rattle.transfers.specs.Plan.{transfers, no_transfer, transfer_line}
 use Rattle.transfers.proofs.Transfers.{transfers_length}
-use Rattle.transfers.proofs.Lines.{Lines, lines_start, lines_room, lines_step, lines_done}
+use Rattle.transfers.proofs.Lines.{lines_start, lines_room, lines_step, lines_done}
 use Rattle.transfers.proofs.write_transfers.Goals as goal
-use Rattle.transfers.proofs.write_transfers.Goals.{At-loop-e, Start}
+use Rattle.transfers.proofs.write_transfers.Goals.{Start}
 
 -- as many turns as transfers
 turns : (c : Start) →

@@ -1,6 +1,5 @@
 -- `unpacking::read_header` meets its contract: where the first number is 1, the others stand behind it, else five stand at the front.
 use mathlib.Core.Path.{◌≡◌, sym, ap, ◌∙◌}
-use borrow.Author.Rules.{rules}
 use Rattle.numbers.specs.declared.Number.TheVariants.{Read}
 use Rattle.numbers.specs.Numbers.{most_groups, number_at}
 use Rattle.card.proofs.Heading.{front_bad, front_nothing, front_plain}

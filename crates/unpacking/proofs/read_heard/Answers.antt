@@ -1,10 +1,9 @@
 -- `unpacking::read_heard` meets its contract: the five numbers behind the leading 1, and then the hearing number.
 use mathlib.Core.Path.{sym, ◌∙◌}
-use borrow.Author.Rules.{rules}
 use Rattle.numbers.proofs.Places.{number_inside}
 use Rattle.card.proofs.Heading.{front_bad, led_bad, Led, led_read, last_bad, last_read}
 use Rattle.unpacking.proofs.read_heard.Goals as goal
-use Rattle.unpacking.proofs.read_heard.Goals.{In-Read, Start}
+use Rattle.unpacking.proofs.read_heard.Goals.{In-Read}
 
 pub read_plain-requires : goal.read_plain-requires
 read_plain-requires c = number_inside _ _ _ _ _ c.requires

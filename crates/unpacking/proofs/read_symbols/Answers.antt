@@ -1,16 +1,15 @@
 -- `unpacking::read_symbols` meets its contract: what was read is in the buffer up to symbol i, and the rest can be read at the place.
-use mathlib.Core.Path.{◌≡◌, refl, sym, ap, ◌∙◌}
+use mathlib.Core.Path.{refl, sym, ap, ◌∙◌}
 use mathlib.Core.List.{◌++◌, append-nil}
-use Prim.Native.Nat.{◌-◌, ◌≤◌}
+use Prim.Native.Nat.{◌-◌}
 use native.Mathlib.Nat.{sub-zero}
 use native.Mathlib.Omega.{arith}
 use borrow.Author.Rules.{rules}
-use lib.ListN.{length, take, drop, length-set}
+use lib.ListN.{length, take, length-set}
 use lib.Seq.{take_all}
 use Rattle.lists.proofs.Buffers.{take_more}
 use Rattle.shape.specs.Shape.{symbol_values}
-use Rattle.card.specs.Cards.{symbols_read, read_symbols}
-use Rattle.card.proofs.Reading.{Good, symbols_good, scan_kept, kept_never, kept_end}
+use Rattle.card.proofs.Reading.{symbols_good, scan_kept, kept_never, kept_end}
 use Rattle.unpacking.proofs.read_symbols.Goals as goal
 
 pub loop-i-init : goal.loop-i-init

@@ -1,16 +1,11 @@
 -- `unpacking::read_symbols` meets its contract: what was read is in the buffer up to symbol i, and the rest can be read at the place.
-use mathlib.Core.Path.{◌≡◌, refl, sym, ap, ◌∙◌}
-use mathlib.Core.List.{◌++◌, append-nil}
+use mathlib.Core.Path.{◌≡◌}
+use mathlib.Core.List.{◌++◌}
 use Prim.Native.Nat.{◌-◌, ◌≤◌}
-use native.Mathlib.Nat.{sub-zero}
-use native.Mathlib.Omega.{arith}
-use borrow.Author.Rules.{rules}
-use lib.ListN.{length, take, drop, length-set}
-use lib.Seq.{take_all}
-use Rattle.lists.proofs.Buffers.{take_more}
+use lib.ListN.{length, take, drop}
 use Rattle.shape.specs.Shape.{symbol_values}
 use Rattle.card.specs.Cards.{symbols_read, read_symbols}
-use Rattle.card.proofs.Reading.{Good, symbols_good, scan_kept, kept_never, kept_end}
+use Rattle.card.proofs.Reading.{Good}
 use Rattle.unpacking.proofs.read_symbols.Given as goal
 
 abbrev pub invariant-loop-i : goal.invariant-loop-i

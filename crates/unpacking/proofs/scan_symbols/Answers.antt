@@ -1,14 +1,12 @@
 -- `unpacking::scan_symbols` meets its contract: what turns back all symbols turns back those from number i on.
-use mathlib.Core.Path.{◌≡◌, sym, ap, ◌∙◌}
-use Prim.Native.Nat.{◌-◌, ◌≤◌}
+use mathlib.Core.Path.{sym, ap, ◌∙◌}
+use Prim.Native.Nat.{◌-◌}
 use native.Mathlib.Nat.{sub-zero}
 use native.Mathlib.Omega.{arith}
 use borrow.Author.Rules.{rules}
-use lib.ListN.{drop}
-use Rattle.card.specs.Cards.{symbols_number, read_symbols}
+use Rattle.card.specs.Cards.{symbols_number}
 use Rattle.card.proofs.Reading.{number_and, scan_bad, scan_left, scan_end, scan_high, scan_next}
 use Rattle.unpacking.proofs.scan_symbols.Goals as goal
-use Rattle.unpacking.proofs.scan_symbols.Goals.{At-loop-i}
 
 pub loop-i-init : goal.loop-i-init
 loop-i-init c = (search rules, rw sub-zero)

@@ -1,12 +1,8 @@
 -- `unpacking::scan_symbols` meets its contract: what turns back all symbols turns back those from number i on.
-use mathlib.Core.Path.{◌≡◌, sym, ap, ◌∙◌}
+use mathlib.Core.Path.{◌≡◌}
 use Prim.Native.Nat.{◌-◌, ◌≤◌}
-use native.Mathlib.Nat.{sub-zero}
-use native.Mathlib.Omega.{arith}
-use borrow.Author.Rules.{rules}
 use lib.ListN.{drop}
 use Rattle.card.specs.Cards.{symbols_number, read_symbols}
-use Rattle.card.proofs.Reading.{number_and, scan_bad, scan_left, scan_end, scan_high, scan_next}
 use Rattle.unpacking.proofs.scan_symbols.Given as goal
 
 abbrev pub invariant-loop-i : goal.invariant-loop-i

@@ -1,6 +1,5 @@
 -- `unpacking::unpack` meets its contract: it turns back with the first thing judged, or reads the header and then the symbols.
 use mathlib.Core.Path.{◌≡◌, sym, ap, ◌∙◌}
-use borrow.Author.Rules.{rules}
 use lib.ListN.{length}
 use Rattle.shape.specs.Refusals.{answer_number}
 use Rattle.card.specs.declared.Front.TheVariants.{Read}
@@ -8,7 +7,7 @@ use Rattle.numbers.specs.Numbers.{most_groups}
 use Rattle.card.specs.Cards.{front_by, front_of}
 use Rattle.card.proofs.Unpacking.{unpacks_broken, unpacks_header, unpacks_symbols, unpacks_done}
 use Rattle.unpacking.proofs.unpack.Goals as goal
-use Rattle.unpacking.proofs.unpack.Goals.{In-Read, In_default-judge_header, In_default-judged}
+use Rattle.unpacking.proofs.unpack.Goals.{In-Read, In_default-judge_header}
 
 pub returns-in_default : goal.returns-in_default
 returns-in_default c = unpacks_broken _ _ _ (sym c.read_header.ensures ∙ c.in_default.is)

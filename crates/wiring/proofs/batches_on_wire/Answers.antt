@@ -3,14 +3,11 @@ use mathlib.Core.Path.{◌≡◌, ◌∙◌}
 use Prim.Native.Nat.{◌+◌, ◌-◌, ◌*◌, ◌≤◌}
 use native.Mathlib.Nat.{mul-le-mul_right}
 use native.Mathlib.Omega.{arith}
-use borrow.Author.Rules.{rules}
 use Rattle.shape.specs.Shape.{most_layers}
 use Rattle.shape.proofs.Accepted.{most_size}
-use Rattle.filling.specs.Filling.{InLayers}
 use Rattle.classes.specs.Classes.{message_size}
 use Rattle.classes.proofs.Layouts.{bounded, share_high}
 use Rattle.solving.proofs.Entries.{batches_high, batch_room}
-use Rattle.wiring.specs.Wires.{OnWire}
 use Rattle.wiring.proofs.Passing.{on_wire_none, on_wire_batch, still_wired}
 use Rattle.wiring.proofs.batches_on_wire.Goals as goal
 use Rattle.wiring.proofs.batches_on_wire.Goals.{In-loop-b}
@@ -29,7 +26,7 @@ room c =
     let B = bounded p.ready.0 in
     let b = c.loop-b.b in
     let m : b * a.g.batch ≤ a.g.batches * a.g.batch = mul-le-mul_right a.g.batch (let z : b ≤ a.g.batches = omega (arith, c.loop-b-test.true) in z) in (
-      batch_room _ a.g.batches b a.count a.first a.run p.run_le_most_places.2 p.run_le_most_places.1 c.loop-b-test.true,
+      batch_room _ a.g.batches b a.count a.first a.run p.run_fits.2 p.run_fits.1 c.loop-b-test.true,
       share_high p.ready.0,
       omega (arith, mul-le-mul_right a.g.places m, B.size_is, B.size_high),
       omega (arith, m, B.layers_are, B.layers_high),
@@ -51,7 +48,7 @@ pub run_on_wire-requires : goal.run_on_wire-requires
 run_on_wire-requires c =
     let p = c.requires in
     let l = c.loop-b in
-    record { ready = (p.ready.0, p.ready.1, p.ready.2, l.invariant.1.own.long ∙ p.ready.3, still_wired p.ready.0 _ _ p.ready.1 _ _ l.part _ _ l.wire (omega (arith, p.ready.4.long)) _ p.ready.4 l.invariant.1); run_le_most_places = (p.run_le_most_places.0, (room (goal.at.run_on_wire-requires c).In-loop-b).0, p.run_le_most_places.3 l.b c.loop-b-test.true, p.run_le_most_places.4 l.b c.loop-b-test.true) }
+    record { ready = (p.ready.0, p.ready.1, p.ready.2, l.invariant.1.own.long ∙ p.ready.3, still_wired p.ready.0 _ _ p.ready.1 _ _ l.part _ _ l.wire (omega (arith, p.ready.4.long)) _ p.ready.4 l.invariant.1); run_fits = (p.run_fits.0, (room (goal.at.run_on_wire-requires c).In-loop-b).0, p.run_fits.3 l.b c.loop-b-test.true, p.run_fits.4 l.b c.loop-b-test.true) }
 
 pub overflow_step-b : goal.overflow_step-b
 overflow_step-b c = omega (arith, c.loop-b-test.true, batches_high c.requires.ready.0)
@@ -61,7 +58,7 @@ loop-b-preserved c =
     let p = c.requires in
     let a = c.args in
     let l = c.loop-b in
-    (omega (arith, c.loop-b-test.true), on_wire_batch p.ready.0 _ _ p.ready.1 _ _ _ _ _ _ (omega (arith, p.ready.4.long)) a.first a.run l.b a.count p.run_le_most_places.1 l.invariant.1 c.run_on_wire.ensures)
+    (omega (arith, c.loop-b-test.true), on_wire_batch p.ready.0 _ _ p.ready.1 _ _ _ _ _ _ (omega (arith, p.ready.4.long)) a.first a.run l.b a.count p.run_fits.1 l.invariant.1 c.run_on_wire.ensures)
 
 pub shape_of-part : goal.shape_of-part
 shape_of-part c = c.loop-b.invariant.1.own.long

@@ -1,17 +1,7 @@
 -- `wiring::batches_on_wire` meets its contract: the sums of the batches passed are done. Assumes nothing.
-use mathlib.Core.Path.{◌≡◌, ◌∙◌}
-use Prim.Native.Nat.{◌+◌, ◌-◌, ◌*◌, ◌≤◌}
-use native.Mathlib.Nat.{mul-le-mul_right}
-use native.Mathlib.Omega.{arith}
-use borrow.Author.Rules.{rules}
-use Rattle.shape.specs.Shape.{most_layers}
-use Rattle.shape.proofs.Accepted.{most_size}
+use Prim.Native.Nat.{◌-◌, ◌≤◌}
 use Rattle.filling.specs.Filling.{InLayers}
-use Rattle.classes.specs.Classes.{message_size}
-use Rattle.classes.proofs.Layouts.{bounded, share_high}
-use Rattle.solving.proofs.Entries.{batches_high, batch_room}
 use Rattle.wiring.specs.Wires.{OnWire}
-use Rattle.wiring.proofs.Passing.{on_wire_none, on_wire_batch, still_wired}
 use Rattle.wiring.proofs.batches_on_wire.Given as goal
 
 abbrev pub invariant-loop-b : goal.invariant-loop-b

@@ -1,20 +1,19 @@
 -- `wiring::exchange` meets its contract: the first steps of the ranks passed are done. Assumes nothing.
-use mathlib.Core.Path.{◌≡◌, refl, ◌∙◌}
+use mathlib.Core.Path.{refl, ◌∙◌}
 use Prim.Native.Nat.{◌+◌, ◌-◌, ◌*◌, ◌≤◌}
 use native.Mathlib.Nat.{mul-le-mul}
 use native.Mathlib.Omega.{arith}
-use borrow.Author.Rules.{rules}
 use lib.ListN.{length, get_or, length-take, length-drop}
-use Rattle.shape.specs.Shape.{size, most_nodes}
+use Rattle.shape.specs.Shape.{most_nodes}
 use Rattle.shape.proofs.Accepted.{shape_accepted, most_size}
 use Rattle.classes.specs.Classes.{node}
 use Rattle.wiring.specs.Wires.{Wired}
 use Rattle.classes.proofs.Layouts.{ready_dead, node_high}
 use Rattle.lists.proofs.Parts.{row_within}
 use Rattle.wiring.proofs.OnWire.{to_rank_front}
-use Rattle.wiring.proofs.Ranked.{Exchanging, exchanging_none, exchanging_more, exchanging_end}
+use Rattle.wiring.proofs.Ranked.{exchanging_none, exchanging_more, exchanging_end}
 use Rattle.wiring.proofs.exchange.Goals as goal
-use Rattle.wiring.proofs.exchange.Goals.{After-shared_slice_known-1, In-loop-u}
+use Rattle.wiring.proofs.exchange.Goals.{In-loop-u}
 
 pub size-full-requires : goal.size-full-requires
 size-full-requires c = c.requires.0.shaped

@@ -1,18 +1,8 @@
 -- `wiring::exchange` meets its contract: the first steps of the ranks passed are done. Assumes nothing.
-use mathlib.Core.Path.{◌≡◌, refl, ◌∙◌}
-use Prim.Native.Nat.{◌+◌, ◌-◌, ◌*◌, ◌≤◌}
-use native.Mathlib.Nat.{mul-le-mul}
-use native.Mathlib.Omega.{arith}
-use borrow.Author.Rules.{rules}
-use lib.ListN.{length, get_or, length-take, length-drop}
-use Rattle.shape.specs.Shape.{size, most_nodes}
-use Rattle.shape.proofs.Accepted.{shape_accepted, most_size}
-use Rattle.classes.specs.Classes.{node}
-use Rattle.wiring.specs.Wires.{Wired}
-use Rattle.classes.proofs.Layouts.{ready_dead, node_high}
-use Rattle.lists.proofs.Parts.{row_within}
-use Rattle.wiring.proofs.OnWire.{to_rank_front}
-use Rattle.wiring.proofs.Ranked.{Exchanging, exchanging_none, exchanging_more, exchanging_end}
+use mathlib.Core.Path.{◌≡◌}
+use Prim.Native.Nat.{◌-◌, ◌≤◌}
+use lib.ListN.{length}
+use Rattle.wiring.proofs.Ranked.{Exchanging}
 use Rattle.wiring.proofs.exchange.Given as goal
 
 abbrev pub invariant-loop-u : goal.invariant-loop-u

@@ -1,11 +1,8 @@
 -- `wiring::first_on_wire` meets its contract: the sums of the members passed are done, in every batch. Assumes nothing.
-use mathlib.Core.Path.{◌≡◌, refl, sym, ◌∙◌}
+use mathlib.Core.Path.{refl, sym, ◌∙◌}
 use Prim.Native.Nat.{ℕ, ◌+◌, ◌-◌, ◌^◌, ◌≤◌, ◌<◌}
 use native.Mathlib.Omega.{arith}
-use borrow.Author.Rules.{rules}
 use lib.ListN.{length}
-use Rattle.code.specs.Code.{narrow}
-use Rattle.rows.specs.Rows.{Low}
 use Rattle.rows.proofs.Rows.{low_replicate}
 use Rattle.tables.specs.Tables.{table_size}
 use Rattle.filling.specs.Filling.{Below}
@@ -13,7 +10,7 @@ use Rattle.classes.specs.Classes.{rank_class, members, message_size}
 use Rattle.classes.specs.Layout.{Fronted}
 use Rattle.solving.specs.Solving.{Helped}
 use Rattle.solving.proofs.Entries.{Classed, classed, all_passed}
-use Rattle.wiring.specs.Wires.{to_rank, OnWire}
+use Rattle.wiring.specs.Wires.{to_rank}
 use Rattle.wiring.proofs.Passing.{offsets_are, on_wire_none, on_wire_run, on_wire_end, still_wired}
 use Rattle.wiring.proofs.first_on_wire.Goals as goal
 use Rattle.wiring.proofs.first_on_wire.Goals.{After-class_size-count, After-list_members, After-run_from-run, Start}
@@ -61,13 +58,16 @@ batches_on_wire-requires c =
     let p = c.requires in
     let l = c.loop-first in
     let r = c.run_from-run.ensures in
-    let w = whole (goal.at.batches_on_wire-requires c).After-class_size-count in record { ready = (p.0, p.1, p.2, l.invariant.3.own.long ∙ p.3, still_wired p.0 _ _ p.1 _ l.part l.part _ l.wire l.wire (omega (arith, p.4.long)) _ p.4 l.invariant.3); run_le_most_places = (
+    let w = whole (goal.at.batches_on_wire-requires c).After-class_size-count in record {
+      ready = (p.0, p.1, p.2, l.invariant.3.own.long ∙ p.3, still_wired p.0 _ _ p.1 _ l.part l.part _ l.wire l.wire (omega (arith, p.4.long)) _ p.4 l.invariant.3);
+      run_fits = (
         r.1,
         r.2,
         w.sums,
         rw w.is c.run_table.ensures.2,
         rw w.is (offsets_are p.0 _ _ _ _ (listed (goal.at.batches_on_wire-requires c).After-list_members).0 (inside (goal.at.batches_on_wire-requires c).After-run_from-run) _ _ (omega (arith, c.offsets-ones.ensures.0, r.1)) (omega (arith, c.offsets-others.ensures.0, r.1)) c.offsets-ones.ensures.1 c.offsets-others.ensures.1),
-      ) }
+      );
+    }
 
 pub slice_bounds-batches_on_wire-end-in-loop-first : goal.slice_bounds-batches_on_wire-end-in-loop-first
 slice_bounds-batches_on_wire-end-in-loop-first c = sym c.offsets-ones.ensures.0

@@ -3,7 +3,6 @@ use mathlib.Core.Path.{◌≡◌, refl, sym, ap, ◌∙◌}
 use Prim.Native.Nat.{◌+◌, ◌-◌, ◌*◌, ◌≤◌, ◌<◌}
 use native.Mathlib.Nat.{mul-le-mul}
 use native.Mathlib.Omega.{arith}
-use borrow.Author.Rules.{rules}
 use borrow.Rule.Slice.PartMut.{same_len_mid}
 use lib.ListN.{length, get_or, length-take, length-drop}
 use Rattle.lists.specs.Lists.{flat, piece}
@@ -11,7 +10,7 @@ use Rattle.lists.proofs.Members.{rising_below}
 use Rattle.lists.proofs.Others.{rising_fits}
 use Rattle.lists.proofs.Flats.{flat_none}
 use Rattle.lists.proofs.Buffers.{onto, onto_none}
-use Rattle.shape.specs.Shape.{size, most_nodes}
+use Rattle.shape.specs.Shape.{most_nodes}
 use Rattle.shape.proofs.Accepted.{shape_accepted, most_size}
 use Rattle.code.specs.Code.{narrow}
 use Rattle.classes.specs.Classes.{message_size}
@@ -21,7 +20,7 @@ use Rattle.classes.proofs.FirstStep.{message_length}
 use Rattle.classes.proofs.Layouts.{ready_dead, share_high}
 use Rattle.lists.proofs.Parts.{row_within, piece_part, flat_put, flat_whole}
 use Rattle.wiring.proofs.messages_to.Goals as goal
-use Rattle.wiring.proofs.messages_to.Goals.{After-shared_slice_known-1, At-loop-j, In-loop-j, Start}
+use Rattle.wiring.proofs.messages_to.Goals.{In-loop-j}
 
 pub size-full-requires : goal.size-full-requires
 size-full-requires c = c.requires.ready.0.shaped

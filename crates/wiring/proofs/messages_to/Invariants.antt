@@ -1,25 +1,11 @@
 -- `wiring::messages_to` meets its contract: the messages of the helpers passed stand one behind the other. Assumes nothing.
-use mathlib.Core.Path.{◌≡◌, refl, sym, ap, ◌∙◌}
-use Prim.Native.Nat.{◌+◌, ◌-◌, ◌*◌, ◌≤◌, ◌<◌}
-use native.Mathlib.Nat.{mul-le-mul}
-use native.Mathlib.Omega.{arith}
-use borrow.Author.Rules.{rules}
-use borrow.Rule.Slice.PartMut.{same_len_mid}
-use lib.ListN.{length, get_or, length-take, length-drop}
-use Rattle.lists.specs.Lists.{flat, piece}
-use Rattle.lists.proofs.Members.{rising_below}
-use Rattle.lists.proofs.Others.{rising_fits}
-use Rattle.lists.proofs.Flats.{flat_none}
-use Rattle.lists.proofs.Buffers.{onto, onto_none}
-use Rattle.shape.specs.Shape.{size, most_nodes}
-use Rattle.shape.proofs.Accepted.{shape_accepted, most_size}
+use mathlib.Core.Path.{◌≡◌}
+use Prim.Native.Nat.{◌-◌, ◌≤◌}
+use lib.ListN.{length}
+use Rattle.lists.specs.Lists.{flat}
+use Rattle.lists.proofs.Buffers.{onto}
 use Rattle.code.specs.Code.{narrow}
-use Rattle.classes.specs.Classes.{message_size}
-use Rattle.classes.specs.Steps.{helper_message}
-use Rattle.classes.specs.Whole.{from_helper, from_helpers}
-use Rattle.classes.proofs.FirstStep.{message_length}
-use Rattle.classes.proofs.Layouts.{ready_dead, share_high}
-use Rattle.lists.proofs.Parts.{row_within, piece_part, flat_put, flat_whole}
+use Rattle.classes.specs.Whole.{from_helper}
 use Rattle.wiring.proofs.messages_to.Given as goal
 
 abbrev pub invariant-loop-j : goal.invariant-loop-j

@@ -1,21 +1,18 @@
 -- `wiring::offsets` meets its contract: an a of the class is the first place of its sum in batch 0, and turned it is the other. Assumes nothing.
 use mathlib.Core.Path.{◌≡◌, refl, ◌∙◌}
-use Prim.Native.Nat.{ℕ, ◌+◌, ◌-◌, ◌*◌, ◌^◌, ◌≤◌, ◌<◌}
+use Prim.Native.Nat.{◌+◌, ◌-◌, ◌*◌, ◌^◌, ◌<◌}
 use native.Mathlib.Omega.{arith}
-use borrow.Author.Rules.{rules}
 use lib.Bits.{bit_xor}
 use lib.ListN.{length, get_or, length-set}
-use Rattle.lists.specs.Lists.{element}
 use Rattle.lists.proofs.Stores.{stored_more}
 use Rattle.shape.specs.Shape.{most_nodes}
 use Rattle.shape.proofs.Accepted.{shape_accepted}
-use Rattle.rows.specs.Rows.{most_places}
 use Rattle.classes.specs.Classes.{rank_class}
 use Rattle.classes.proofs.Members.{members_few}
 use Rattle.steps.proofs.Turned.{turn_high}
 use Rattle.wiring.proofs.Passing.{offset_turned}
 use Rattle.wiring.proofs.offsets.Goals as goal
-use Rattle.wiring.proofs.offsets.Goals.{In-loop-t, Start}
+use Rattle.wiring.proofs.offsets.Goals.{In-loop-t}
 
 pub overflow_mul-turn : goal.overflow_mul-turn
 overflow_mul-turn c = let p = c.requires in omega (arith, turn_high p.0 _ _ _ p.1 c.turn_of.ensures p.5)

@@ -4,7 +4,6 @@ use mathlib.Core.List.{List}
 use Prim.Native.Nat.{ℕ, ◌+◌, ◌-◌, ◌*◌, ◌≤◌, ◌<◌}
 use native.Mathlib.Nat.{mul-le-mul}
 use native.Mathlib.Omega.{arith}
-use borrow.Author.Rules.{rules}
 use lib.ListN.{length, get_or, take, drop, length-take, length-drop}
 use Rattle.lists.specs.Lists.{piece}
 use Rattle.shape.specs.Shape.{size, most_nodes}
@@ -14,9 +13,9 @@ use Rattle.wiring.specs.Wires.{from_others}
 use Rattle.classes.proofs.Layouts.{ready_dead, node_high, bounded, share_high}
 use Rattle.lists.proofs.Parts.{row_within, piece_part}
 use Rattle.wiring.proofs.OnWire.{Room, wire_room, lent_others}
-use Rattle.wiring.proofs.Ranked.{Renewing, renewing_none, renewing_own, renewing_more, renewing_end, recovers_as}
+use Rattle.wiring.proofs.Ranked.{renewing_none, renewing_own, renewing_more, renewing_end, recovers_as}
 use Rattle.wiring.proofs.renew.Goals as goal
-use Rattle.wiring.proofs.renew.Goals.{After-shared_slice_known-1, In-loop-u, Start}
+use Rattle.wiring.proofs.renew.Goals.{In-loop-u, Start}
 
 pub size-full-requires : goal.size-full-requires
 size-full-requires c = c.requires.0.shaped

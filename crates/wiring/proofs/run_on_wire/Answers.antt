@@ -4,7 +4,6 @@ use mathlib.Core.Bool.{true}
 use mathlib.Core.List.{List}
 use Prim.Native.Nat.{ℕ, ◌+◌, ◌-◌, ◌*◌, ◌≤◌}
 use native.Mathlib.Omega.{arith}
-use borrow.Author.Rules.{rules}
 use lib.ListN.{length, take, drop, length-take, length-drop}
 use Rattle.classes.specs.Classes.{node}
 use Rattle.classes.proofs.Layouts.{bounded, ready_dead, node_high}
@@ -52,7 +51,7 @@ pub gather-sent-requires : goal.gather-sent-requires
 gather-sent-requires c =
     let R = c.requires.ready.0 in
     let H = helped (goal.at.gather-sent-requires c).Start in
-    ((bounded R).n_high, H.rises, c.requires.run_le_most_places.0, rw R.share_is c.requires.run_le_most_places.1, H.long ∙ ap₂ ◌*◌ (sym H.count) (sym R.share_is))
+    ((bounded R).n_high, H.rises, c.requires.run_fits.0, rw R.share_is c.requires.run_fits.1, H.long ∙ ap₂ ◌*◌ (sym H.count) (sym R.share_is))
 
 pub slice_bounds-put_entry-end : goal.slice_bounds-put_entry-end
 slice_bounds-put_entry-end c = sym c.gather-sent.ensures.long
@@ -60,7 +59,7 @@ slice_bounds-put_entry-end c = sym c.gather-sent.ensures.long
 pub put_entry-requires : goal.put_entry-requires
 unfolding node
 put_entry-requires c =
-    let p = c.requires.run_le_most_places in
+    let p = c.requires.run_fits in
     let R = c.requires.ready.0 in
     (entry_summable R _ _ _ (helped (goal.at.put_entry-requires c).Start) _ _ p.0 p.1 _ _ p.2 c.gather-sent.ensures _ (omega (arith, node_high R _ c.requires.ready.1)), rw c.requires.ready.3 (own_places (ready_dead R) _ c.requires.ready.1 0 _ _ _ _ p.3.ones_long (omega arith) p.1 p.3.one))
 
@@ -69,7 +68,7 @@ slice_bounds-put_entry-end-2 c = sym c.gather-sent.ensures.long
 
 pub put_entry-requires-2 : goal.put_entry-requires-2
 put_entry-requires-2 c =
-    let p = c.requires.run_le_most_places in
+    let p = c.requires.run_fits in
     let R = c.requires.ready.0 in
     (entry_summable R _ _ _ (helped (goal.at.put_entry-requires-2 c).Start) _ _ p.0 p.1 _ _ p.2 c.gather-sent.ensures _ (omega arith), rw (c.put_entry.ensures.long, c.requires.ready.3) (own_places (ready_dead R) _ c.requires.ready.1 1 _ _ _ _ p.3.others_long (omega arith) p.1 p.3.other))
 
@@ -89,7 +88,7 @@ pub hand_out-requires : goal.hand_out-requires
 unfolding slots
 hand_out-requires c =
     let st = (goal.at.hand_out-requires c).Start in
-    let p = st.requires.run_le_most_places in
+    let p = st.requires.run_fits in
     let R = st.requires.ready.0 in
     record { ready = (R, st.requires.ready.1, p.0, p.1, rank_summable R _ _ _ (helped (goal.at.hand_out-requires c).Start) _ _ p.0 p.1 _ _ p.2 c.gather-sent.ensures); out_len = simp (length-take, length-drop) (omega (arith, st.requires.ready.4.long, (room st).all)) }
 
@@ -101,7 +100,7 @@ unfolding node
 returns c =
     let st = (goal.at.returns c).Start in
     let a = st.args in
-    let p = st.requires.run_le_most_places in
+    let p = st.requires.run_fits in
     let R = st.requires.ready.0 in
     let H = helped (goal.at.returns c).Start in
     let b = length a.dead.now * a.told in

@@ -2,11 +2,9 @@
 use mathlib.Core.Path.{◌≡◌, refl, sym, ap, ap₂, ◌∙◌}
 use Prim.Native.Nat.{ℕ, ◌+◌, ◌-◌, ◌*◌, ◌≤◌}
 use native.Mathlib.Omega.{arith}
-use borrow.Author.Rules.{rules}
 use borrow.Rule.Slice.PartMut.{same_len_mid}
 use lib.ListN.{length, take, length-take, length-drop}
 use Rattle.lists.specs.Lists.{flat}
-use Rattle.lists.proofs.Buffers.{onto}
 use Rattle.code.specs.Code.{narrow}
 use Rattle.classes.specs.Classes.{message_size}
 use Rattle.classes.specs.Whole.{from_helpers}

@@ -1,10 +1,6 @@
 -- `writing::clear` meets its contract. Assumes nothing.
-use mathlib.Core.Path.{◌≡◌, refl}
 use Prim.Native.Nat.{◌-◌, ◌≤◌}
-use native.Mathlib.Omega.{arith}
-use borrow.Author.Rules.{rules}
 use Rattle.rows.specs.Rows.{Stored}
-use Rattle.rows.proofs.Rows.{stored_none, stored_more}
 use Rattle.writing.specs.Steps.{nothing}
 use Rattle.writing.proofs.clear.Given as goal
 

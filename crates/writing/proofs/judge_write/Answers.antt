@@ -3,12 +3,11 @@ use mathlib.Core.Path.{◌≡◌, sym, ◌∙◌}
 use mathlib.Core.Bool.{false}
 use native.Mathlib.Omega.{arith}
 use native.Mathlib.Nat.{mul-le-mul}
-use borrow.Author.Rules.{rules}
 use Rattle.shape.specs.Refusals.{shape_bad, wrong_length}
 use Rattle.shape.proofs.Accepted.{shape_accepted}
 use Rattle.code.specs.Refusals.{write_refusal}
 use Rattle.writing.proofs.judge_write.Goals as goal
-use Rattle.writing.proofs.judge_write.Goals.{After-size-places, Else-shape_bad}
+use Rattle.writing.proofs.judge_write.Goals.{Else-shape_bad}
 
 pub returns-then-shape_bad : goal.returns-then-shape_bad
 unfolding write_refusal

@@ -1,10 +1,8 @@
 -- `writing::store_data` meets its contract. Assumes nothing.
 use mathlib.Core.Path.{◌∙◌}
 use native.Mathlib.Omega.{arith}
-use borrow.Author.Rules.{rules}
 use Rattle.writing.proofs.Writing.{data_stored}
 use Rattle.writing.proofs.store_data.Goals as goal
-use Rattle.writing.proofs.store_data.Goals.{After-clear, After-store_transcript, Start}
 
 pub store_transcript-requires : goal.store_transcript-requires
 store_transcript-requires c = omega (arith, c.requires.0, c.requires.1)

@@ -1,12 +1,9 @@
 -- `writing::store_transcript` meets its contract. Assumes nothing.
-use mathlib.Core.Path.{◌≡◌, refl}
+use mathlib.Core.Path.{◌≡◌}
 use Prim.Native.Nat.{◌-◌, ◌≤◌}
-use native.Mathlib.Omega.{arith}
-use borrow.Author.Rules.{rules}
 use lib.ListN.{length}
 use Rattle.lists.specs.Lists.{element}
 use Rattle.rows.specs.Rows.{Stored}
-use Rattle.rows.proofs.Rows.{stored_none, stored_front}
 use Rattle.writing.proofs.store_transcript.Given as goal
 
 abbrev pub invariant-loop-b : goal.invariant-loop-b

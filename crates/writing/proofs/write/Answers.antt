@@ -2,7 +2,6 @@
 use mathlib.Core.Path.{◌≡◌, sym, ap, ◌∙◌}
 use mathlib.Core.Bool.{true}
 use native.Mathlib.Omega.{arith}
-use borrow.Author.Rules.{rules}
 use lib.ListN.{length}
 use Rattle.lists.specs.Lists.{all, below}
 use Rattle.lists.proofs.Tests.{at_all_below}
@@ -14,7 +13,7 @@ use Rattle.code.proofs.Written.{written_codeword}
 use Rattle.code.proofs.Accepted.{write_accepted}
 use Rattle.code.proofs.Promised.{writes_refused, writes_done}
 use Rattle.writing.proofs.write.Goals as goal
-use Rattle.writing.proofs.write.Goals.{After-write_all, In-Done}
+use Rattle.writing.proofs.write.Goals.{In-Done}
 
 -- the judging found no cause
 accepted : (c : In-Done) →
