@@ -78,11 +78,10 @@ static inline const char *hmsr_refusal_text(size_t number) {
     switch (number) {
     case 0: return "no refusal";
     case HMSR_BAD_SHAPE: return "there must be 3 to 14 nodes, 1 to nodes - 2 data nodes and 1 to 15 layers";
-    case HMSR_BAD_NODES: return "the node lists, the helpers heard, or the losses, are not as they should be";
+    case HMSR_BAD_NODES: return "the node lists, or the losses, are not as they should be";
     case HMSR_PART_BATCH: return "the number of layers is not a multiple of the layers of a batch";
-    case HMSR_WRONG_LENGTH: return "a buffer is not of the exact length, a list of pairs is odd or too long, the transcript is too long, "
-                                   "or not all helpers are heard";
-    case HMSR_BAD_SYMBOL: return "a symbol, or a kept sum, is above 256";
+    case HMSR_WRONG_LENGTH: return "a buffer is not of the exact length, a list of pairs is odd or too long, or the transcript is too long";
+    case HMSR_BAD_SYMBOL: return "a symbol is above 256";
     case HMSR_MALFORMED: return "the card or the input is malformed";
     case HMSR_NO_TRANSCRIPT: return "the symbols are not those of a transcript of that length";
     case HMSR_PAST_END: return "the byte, or a stretch, is not within the transcript's length";

@@ -77,13 +77,12 @@ impl fmt::Display for Refusal {
     fn fmt(&self, f: &mut fmt::Formatter<'_>) -> fmt::Result {
         f.write_str(match self {
             Refusal::BadShape => "there must be 3 to 14 nodes, 1 to nodes - 2 data nodes and 1 to 15 layers",
-            Refusal::BadNodes => "the node lists, the helpers heard, or the losses, are not as they should be",
+            Refusal::BadNodes => "the node lists, or the losses, are not as they should be",
             Refusal::PartBatch => "the number of layers is not a multiple of the layers of a batch",
             Refusal::WrongLength => {
-                "a buffer is not of the exact length, a list of pairs is odd or too long, the transcript is too long, \
-                 or not all helpers are heard"
+                "a buffer is not of the exact length, a list of pairs is odd or too long, or the transcript is too long"
             }
-            Refusal::BadSymbol => "a symbol, or a kept sum, is above 256",
+            Refusal::BadSymbol => "a symbol is above 256",
             Refusal::Malformed => "the card or the input is malformed",
             Refusal::NoTranscript => "the symbols are not those of a transcript of that length",
             Refusal::PastEnd => "the byte, or a stretch, is not within the transcript's length",

@@ -2,6 +2,7 @@
 use mathlib.Core.Path.{◌≡◌, sym, ◌∙◌}
 use mathlib.Core.Bool.{false}
 use native.Mathlib.Omega.{arith}
+use borrow.Author.Rules.{rules}
 use borrow.Author.Tests.{not-true, not-false}
 use Rattle.shape.specs.Refusals.{shape_bad}
 use Rattle.shape.proofs.Accepted.{shape_accepted}
@@ -35,8 +36,9 @@ returns-then-outside c =
 pub returns-then-over : goal.returns-then-over
 returns-then-over c =
     let N = c.needs_of-needed.ensures in
-    none_refused _ _ _ (counts (goal.at.returns-then-over c).Else-shape_bad) (not-false _ (sym N.judged ∙ c.if-outside.false))
-    (needed_over _ _ N.positive (N.multiples c.if-outside.false) c.if-over.true)
+    let inside : c.needs_of-needed.result.outside ≡ false = search rules in
+    none_refused _ _ _ (counts (goal.at.returns-then-over c).Else-shape_bad) (not-false _ (sym N.judged ∙ inside))
+    (needed_over _ _ N.positive (N.multiples inside) c.if-over.true)
 
 pub returns : goal.returns
 returns c =

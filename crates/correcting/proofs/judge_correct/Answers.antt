@@ -4,6 +4,7 @@ use mathlib.Core.Bool.{false}
 use Prim.Native.Nat.{◌*◌, ◌≤◌, ◌<◌}
 use native.Mathlib.Nat.{mul-le-mul, mul-le-mul_right, mod-lt}
 use native.Mathlib.Omega.{arith}
+use borrow.Author.Rules.{rules}
 use borrow.Author.Tests.{le-ltb, lt-ltb, ltb-false, eqb-true, not-false}
 use lib.ListN.{length}
 use mir.Facts.{to_z-of_z}
@@ -16,7 +17,7 @@ use Rattle.code.specs.Archive.{symbol, column}
 use Rattle.correcting.specs.Signed.{change_bad}
 use Rattle.correcting.specs.Correcting.{correct_refusal}
 use Rattle.correcting.proofs.judge_correct.Goals as goal
-use Rattle.correcting.proofs.judge_correct.Goals.{After-change_bad-unfit, After-size-each, Else-high, Else-length-byte, Else-shape_bad}
+use Rattle.correcting.proofs.judge_correct.Goals.{After-change_bad-unfit, After-size-each, Else-length-byte, Else-shape_bad}
 
 pub returns-then-shape_bad : goal.returns-then-shape_bad
 unfolding correct_refusal
@@ -66,10 +67,10 @@ decided c =
     (good (goal.at.After-change_bad-unfit c).Else-shape_bad, sym d.size-each.ensures, d.if-nodes-n.false, lt-ltb _ _ (lengths d).2, sym c.column_bad-high.ensures, sym (c.change_bad-unfit.ensures ∙ ap (change_bad _) (to_z-of_z d.ranges.change)))
 
 -- where the symbols are accepted too, the change does
-last : (c : Else-high) →
+last : (c : After-change_bad-unfit) →
     let a = c.args in
-    correct_refusal narrow a.s a.nodes.now a.length a.byte a.change ≡ refuse c.change_bad-unfit.result 12 0
-last c = decided (goal.at.Else-high c).After-change_bad-unfit ∙ ap (λ t. refuse t 5 (refuse c.change_bad-unfit.result 12 0)) c.if-high.false
+    c.column_bad-high.result ≡ false → correct_refusal narrow a.s a.nodes.now a.length a.byte a.change ≡ refuse c.change_bad-unfit.result 12 0
+last c low = decided c ∙ ap (λ t. refuse t 5 (refuse c.change_bad-unfit.result 12 0)) low
 
 pub size-each-requires : goal.size-each-requires
 size-each-requires c = good c
@@ -90,7 +91,9 @@ pub returns-then-high : goal.returns-then-high
 returns-then-high c = sym (decided (goal.at.returns-then-high c).After-change_bad-unfit ∙ ap (λ t. refuse t 5 (refuse c.change_bad-unfit.result 12 0)) c.if-high.true)
 
 pub returns-then-unfit : goal.returns-then-unfit
-returns-then-unfit c = sym (last (goal.at.returns-then-unfit c).Else-high ∙ ap (λ t. refuse t 12 0) c.if-unfit.true)
+returns-then-unfit c =
+    let low : c.column_bad-high.result ≡ false = search rules in
+    sym (last (goal.at.returns-then-unfit c).After-change_bad-unfit low ∙ ap (λ t. refuse t 12 0) c.if-unfit.true)
 
 pub returns : goal.returns
-returns c = sym (last (goal.at.returns c).Else-high ∙ ap (λ t. refuse t 12 0) c.if-unfit.false)
+returns c = sym (last (goal.at.returns c).After-change_bad-unfit c.if-high.false ∙ ap (λ t. refuse t 12 0) c.if-unfit.false)

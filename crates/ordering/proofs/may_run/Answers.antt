@@ -1,13 +1,16 @@
 -- `ordering::may_run` meets its contract: causes 1 to 3, the odd count, then the list itself; the number gives the promise. Assumes nothing.
 use mathlib.Core.Path.{◌≡◌, sym, ap, ◌∙◌}
 use mathlib.Core.Bool.{not}
+use borrow.Author.Rules.{rules}
+use lib.ListN.{length}
+use Prim.Native.Nat.{◌%◌}
 use borrow.Author.Tests.{eq-eqb, ne_eqb}
 use Rattle.shape.specs.Refusals.{refuse}
 use Rattle.judging.proofs.Judged.{judged_stop, judged_listed, judged_then, judged_length, refuse_false}
 use Rattle.ordering.specs.Ordering.{odd_count, pairs_refusal, order_refusal}
 use Rattle.ordering.proofs.Promised.{orders}
 use Rattle.ordering.proofs.may_run.Goals as goal
-use Rattle.ordering.proofs.may_run.Goals.{Else-odd}
+use Rattle.ordering.proofs.may_run.Goals.{After-runs-yes}
 
 pub returns-in_default : goal.returns-in_default
 unfolding order_refusal pairs_refusal
@@ -22,16 +25,18 @@ returns-then-odd c =
     orders _ _ _ _ _ (judged_length _ _ _ _ _ c.judge_lists-lists.ensures c.in-Done.is _ _ (ap not (ne_eqb _ _ c.if-odd.true)))
 
 -- where the count is even, the list decides
-decided : (c : Else-odd) →
+decided : (c : After-runs-yes) →
     let a = c.args in
-    order_refusal a.s a.dead.now a.helpers.now a.numbers.now ≡ refuse (not c.runs-yes.result) 13 0
+    length a.numbers.now % 2 ≡ 0 → order_refusal a.s a.dead.now a.helpers.now a.numbers.now ≡ refuse (not c.runs-yes.result) 13 0
 unfolding order_refusal pairs_refusal odd_count
-decided c =
-    judged_then _ _ _ _ _ c.judge_lists-lists.ensures c.in-Done.is _ ∙ refuse_false _ 4 _ (ap not (eq-eqb _ _ c.if-odd.false))
+decided c even =
+    judged_then _ _ _ _ _ c.judge_lists-lists.ensures c.in-Done.is _ ∙ refuse_false _ 4 _ (ap not (eq-eqb _ _ even))
     ∙ ap (λ b. refuse (not b) 13 0) (sym c.runs-yes.ensures)
 
 pub returns-then-not-yes : goal.returns-then-not-yes
-returns-then-not-yes c = orders _ _ _ _ _ (sym (decided (goal.at.returns-then-not-yes c).Else-odd ∙ ap (λ b. refuse (not b) 13 0) c.if-not-yes.true))
+returns-then-not-yes c =
+    let even : length c.args.numbers.now % 2 ≡ 0 = search rules in
+    orders _ _ _ _ _ (sym (decided (goal.at.returns-then-not-yes c).After-runs-yes even ∙ ap (λ b. refuse (not b) 13 0) c.if-not-yes.true))
 
 pub returns : goal.returns
-returns c = orders _ _ _ _ _ (sym (decided (goal.at.returns c).Else-odd ∙ ap (λ b. refuse (not b) 13 0) c.if-not-yes.false))
+returns c = orders _ _ _ _ _ (sym (decided (goal.at.returns c).After-runs-yes c.if-odd.false ∙ ap (λ b. refuse (not b) 13 0) c.if-not-yes.false))
