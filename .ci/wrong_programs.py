@@ -15,7 +15,8 @@ from pathlib import Path
 REFUSED = re.compile(r'^rt: must-fail (\w+)/(\S+)\.edit: refused, as it must be(?: \((only [^)]*)\))?(?:: (.*))?$', re.M)
 PROOF = re.compile(r'(?:note: )?(?:\./)?proofs/\+?(\w+)/\w+\.antt:\d+:\d+: ')
 SOURCE = re.compile(r'(?:note: )?(?:\./)?src/\w+\.rt:(\d+):\d+: ')
-FUNCTION = re.compile(r'^(?:pub )?(?:extern "C" )?fn (\w+)', re.M)
+# With the attributes above it, where rt has the place of an exported function.
+FUNCTION = re.compile(r'^(?:#\[.*\]\n)*(?:pub )?(?:extern "C" )?fn (\w+)', re.M)
 BODY = re.compile(r'^(?:.*fn .*)?\{$', re.M)
 
 
