@@ -17,7 +17,7 @@ use Rattle.lists.proofs.Sums.{sum_ext, over_sum}
 use Rattle.field.specs.Residues.{minus}
 use Rattle.field.proofs.Bridge.{minus_mod, solution_ext}
 use Rattle.column.specs.Column.{listed_sum, missing, unknowns}
-use Rattle.column.proofs.Column.{other_at}
+use Rattle.column.proofs.Column.{completed_other}
 use Rattle.shape.specs.declared.Shape.{Shape}
 use Rattle.code.specs.Code.{Code, more_points}
 use Rattle.code.proofs.NodePoints.{more_length, more_at, more_good}
@@ -128,7 +128,7 @@ module _ (c : Code) (s : Shape) (dead helpers : List ℕ) (A : Accepted c s dead
         (solution_ext c.modulus (unknowns ps helpers) _ _
         (λ t g. ap (minus c.modulus 0) (sum_at_lem t (omega (arith, count))) ∙ minus_mod c.modulus 0 _))
         (sym long)
-        ∙ sym (other_at c.modulus A.code.prime ps (more_good c s.n A.code (spot_at s dead u x).a i i_below) helpers up
+        ∙ sym (completed_other c.modulus A.code.prime ps (more_good c s.n A.code (spot_at s dead u x).a i i_below) helpers up
         (λ j. get_or messages (j * M + x) 0) j (omega (arith, long)) e)
 
   -- neither a dead node nor the entry behind is a helper

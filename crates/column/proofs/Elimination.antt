@@ -8,7 +8,7 @@ use native.Mathlib.Omega.{arith}
 use Rattle.field.specs.Residues.{minus}
 use Rattle.field.proofs.Ring.{Ring, Field, ring, mul_ne_zero}
 use Rattle.field.proofs.Powers.{pow, pow_suc}
-use Rattle.column.specs.Solving.{less, eliminated, differences as numberDifferences}
+use Rattle.column.specs.Solving.{less, eliminated, differences as number_differences}
 
 -- ---- in numbers: one point more
 
@@ -32,19 +32,19 @@ eliminated_ext q p p' f g (suc i) t hp hf =
     (eliminated_ext q p p' f g i t (λ l h. hp l (omega arith)) (λ s h. hf s (omega arith)))
     (eliminated_ext q p p' f g i (t + 1) (λ l h. hp l (omega arith)) (λ s h. hf s (omega arith)))
 
-pub differences_none_at : (q : ℕ) (points : ℕ → ℕ) (x : ℕ) → 1 ≡ numberDifferences q points 0 x
-unfolding numberDifferences
+pub differences_none_at : (q : ℕ) (points : ℕ → ℕ) (x : ℕ) → 1 ≡ number_differences q points 0 x
+unfolding number_differences
 differences_none_at q points x = refl
 
-pub differences_next : (q : ℕ) (points : ℕ → ℕ) (i x p d : ℕ) → p ≡ numberDifferences q points i x → d ≡ minus q x (points i)
-    → (p * d) % q ≡ numberDifferences q points (i + 1) x
-unfolding numberDifferences
+pub differences_next : (q : ℕ) (points : ℕ → ℕ) (i x p d : ℕ) → p ≡ number_differences q points i x → d ≡ minus q x (points i)
+    → (p * d) % q ≡ number_differences q points (i + 1) x
+unfolding number_differences
 differences_next q points i x p d e f = rw (add-one i, e, f)
 
 -- they go by the points before i
 pub differences_ext : (q : ℕ) (p p' : ℕ → ℕ) (i x : ℕ) → ((l : ℕ) → l < i → p l ≡ p' l)
-    → numberDifferences q p i x ≡ numberDifferences q p' i x
-unfolding numberDifferences
+    → number_differences q p i x ≡ number_differences q p' i x
+unfolding number_differences
 differences_ext q p p' zero x h = refl
 differences_ext q p p' (suc i) x h =
     ap₂ (λ d y. (d * minus q x y) % q) (differences_ext q p p' i x (λ l k. h l (omega arith))) (h i (omega arith))

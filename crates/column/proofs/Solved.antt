@@ -21,7 +21,7 @@ use Rattle.field.proofs.Vandermonde.{moment, moment_nil, moment_cons, Apart, Dis
 use Rattle.field.proofs.Bridge.{r as residue, K as field, res_inj, small_same, minus_is, solution_is, solution_small}
 use Rattle.column.specs.Column.{Points}
 use Rattle.column.specs.Solving.{power_of, less, eliminated, differences, pivot_at}
-use Rattle.column.proofs.Elimination.{from, from_none, from_more, from_ext, rest, rest_none, differences as fieldDifferences, differences_none, differences_more, rest_powers, differences_nonzero, met}
+use Rattle.column.proofs.Elimination.{from, from_none, from_more, from_ext, rest, rest_none, differences as field_differences, differences_none, differences_more, rest_powers, differences_nonzero, met}
 
 -- some of the points, at rising places
 pub points_picked : (q : ℕ) (ps : List ℕ) → Points q ps → (a : ℕ) (list : List ℕ) → Rises a (length ps) list → Points q (map (λ i. get_or ps i 0) list)
@@ -126,15 +126,15 @@ module _ (q : ℕ) (prime : Prime q) where
     corner_is : (i x : ℕ) → r (corner i x) ≡ rest (R q prime) X i (pow (R q prime) (r x)) 0
     corner_is i x = eliminated_is (element xs) (power_of q x) i 0 ∙ ap (λ f. rest (R q prime) X i f 0) (fun_ext (powers_are x))
 
-    differences_is : (i x : ℕ) → r (differences q (element xs) i x) ≡ fieldDifferences (R q prime) X i (r x)
+    differences_is : (i x : ℕ) → r (differences q (element xs) i x) ≡ field_differences (R q prime) X i (r x)
     differences_is zero x = none ∙ sym (differences_none (R q prime) X (r x))
       where
         none : r (differences q (element xs) 0 x) ≡ 𝟙
         none = unfold differences in sym (one_is q o)
     differences_is (suc i) x = go (differences_is i x)
       where
-        go : r (differences q (element xs) i x) ≡ fieldDifferences (R q prime) X i (r x)
-            → r (differences q (element xs) (suc i) x) ≡ fieldDifferences (R q prime) X (suc i) (r x)
+        go : r (differences q (element xs) i x) ≡ field_differences (R q prime) X i (r x)
+            → r (differences q (element xs) (suc i) x) ≡ field_differences (R q prime) X (suc i) (r x)
         go e = unfold differences in
             res_mod q o _ ∙ res_mul q o _ _ ∙ ap₂ ◌⊗◌ e (minus_is q prime x (element xs i)) ∙ sym (differences_more (R q prime) X i (r x))
 
@@ -143,7 +143,7 @@ module _ (q : ℕ) (prime : Prime q) where
         → differences q (element xs) i x ≡ eliminated q (element xs) i (power_of q x) 0
     corner_product i x low low' =
         res_inj q prime _ _ low' low
-        (differences_is i x ∙ sym (mul_one (R q prime) _) ∙ ap (λ u. fieldDifferences (R q prime) X i (r x) ⊗ u) (sym (pow_zero (R q prime) (r x)))
+        (differences_is i x ∙ sym (mul_one (R q prime) _) ∙ ap (λ u. field_differences (R q prime) X i (r x) ⊗ u) (sym (pow_zero (R q prime) (r x)))
         ∙ sym (rest_powers (R q prime) X (r x) i 0) ∙ sym (corner_is i x))
 
     -- a point differs from those before it

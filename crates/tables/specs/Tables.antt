@@ -1,4 +1,4 @@
--- What is promised of the functions that work out the multipliers of a run of places. Row i of a table has mostPlaces elements.
+-- What is promised of the functions that work out the multipliers of a run of places. Row i of a table has most_places elements.
 -- The rows are those of any columns of points P 0, P 1, ..: the nodes' points at some a, or with one more behind them, as a first step has it.
 use Rattle.std.specs.Prelude.{◌≡◌, Bool, false, not, List, ℕ, ◌+◌, ◌*◌, ◌-◌, ◌<◌, length, get_or}
 use Rattle.lists.specs.Lists.{member}

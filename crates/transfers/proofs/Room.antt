@@ -1,4 +1,4 @@
--- No text is longer than planRoom.
+-- No text is longer than plan_room.
 use mathlib.Core.Path.{◌≡◌, refl, ap, ◌∙◌}
 use mathlib.Core.Logic.{◌⊎◌, inl, inr}
 use mathlib.Core.Bool.{Bool, true, false, not}
