@@ -15,9 +15,9 @@ from pathlib import Path
 REFUSED = re.compile(r'^rt: must-fail (\w+)/(\S+)\.edit: refused, as it must be(?: \((only [^)]*)\))?(?:: (.*))?$', re.M)
 PROOF = re.compile(r'(?:note: )?(?:\./)?proofs/\+?(\w+)/\w+\.antt:\d+:\d+: ')
 SOURCE = re.compile(r'(?:note: )?(?:\./)?src/\w+\.rt:(\d+):\d+: ')
-# With the attributes above it, where rt has the place of an exported function.
-FUNCTION = re.compile(r'^(?:#\[.*\]\n)*(?:pub )?(?:extern "C" )?fn (\w+)', re.M)
-BODY = re.compile(r'^(?:.*fn .*)?\{$', re.M)
+# With the attributes above it, where rt has the place of an exported function; a method stands further in.
+FUNCTION = re.compile(r'^(?:#\[.*\]\n)*( *)(?:pub )?(?:extern "C" )?fn (\w+)', re.M)
+BODY = re.compile(r'^ *(?:.*fn .*)?\{$', re.M)
 
 
 class Crate:
@@ -29,7 +29,8 @@ class Crate:
         self.functions = {}
         for found in FUNCTION.finditer(self.source):
             body = BODY.search(self.source, found.start()).end()
-            self.functions[found.group(1)] = (found.start(), body, self.source.index('\n}\n', body))
+            indent, name = found.groups()
+            self.functions[name] = (found.start(), body, self.source.index(f'\n{indent}}}\n', body))
 
     def changed(self, edit):
         """The function whose body is all that an edit changes, or None."""

@@ -17,7 +17,7 @@ use Rattle.lists.proofs.Members.{member_of, at_position, rising_rises}
 use Rattle.lists.proofs.Flats.{flat_length, flat_at}
 use Rattle.lists.proofs.Places.{place_of}
 use Rattle.shape.specs.declared.Shape.{Shape}
-use Rattle.shape.specs.declared.Answer.TheVariants.{Done}
+use Rattle.std.specs.Prelude.{Ok}
 use Rattle.shape.specs.Refusals.{answer_number, afterwards}
 use Rattle.shape.proofs.Answers.{number_only, afterwards_done}
 use Rattle.code.specs.Code.{narrow}
@@ -287,14 +287,14 @@ module _ (s : Shape) (dead helpers : List ℕ) (new : ℕ) where
     -- a helper's call with a message that is right is heard, if the helper was not before
     pub calls_hear : (x : Call) → Hears s dead helpers new x.helper x.message sums x.sums heard x.heard x.answer
         → lists_refusal s dead helpers (outside dead new) 0 ≡ 0 → member x.helper helpers ≡ true → length x.message ≡ message_size s dead
-        → ((e : ℕ) → e < length x.message → get_or x.message e 0 < narrow.modulus) → (x.answer ≡ Done) ⊎ (heard_in calls x.helper ≡ true)
+        → ((e : ℕ) → e < length x.message → get_or x.message e 0 < narrow.modulus) → (x.answer ≡ Ok tt) ⊎ (heard_in calls x.helper ≡ true)
     calls_hear x v e m long low = go (member x.helper (heard_nodes heard)) refl
       where
-        go : (t : Bool) → member x.helper (heard_nodes heard) ≡ t → (x.answer ≡ Done) ⊎ (heard_in calls x.helper ≡ true)
+        go : (t : Bool) → member x.helper (heard_nodes heard) ≡ t → (x.answer ≡ Ok tt) ⊎ (heard_in calls x.helper ≡ true)
         go true n = inr (in_order calls x.helper ∙ sym (ap (member x.helper) nodes_are) ∙ n)
         go false n =
             inl
-            (number_only x.answer Done
+            (number_only x.answer (Ok tt)
             (v.number
             ∙ hear_clear s dead helpers new x.helper x.message sums heard (record {
               listed = (listed_passed s dead helpers (outside dead new) 0 e).0;

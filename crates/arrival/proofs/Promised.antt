@@ -10,9 +10,8 @@ use Rattle.lists.specs.Lists.{outside, position}
 use Rattle.shape.specs.declared.Shape.{Shape}
 use Rattle.shape.specs.declared.Refusal.{Refusal}
 use Rattle.shape.specs.declared.Refusal.TheVariants.{BadNodes, WrongLength}
-use Rattle.shape.specs.declared.Answer.{Answer}
-use Rattle.shape.specs.declared.Answer.TheVariants.{Done, Refused}
-use Rattle.shape.specs.Refusals.{number_of, answer_number, afterwards, shape_bad, repair_bad, wrong_length}
+use Rattle.std.specs.Prelude.{Ok, Err}
+use Rattle.shape.specs.Refusals.{number_of, answer_number, afterwards, shape_bad, repair_bad, wrong_length, Answer}
 use Rattle.shape.proofs.Answers.{number_only, afterwards_done, afterwards_refused}
 use Rattle.code.specs.Code.{narrow}
 use Rattle.classes.specs.Steps.{own_pairs, exchanges}
@@ -45,21 +44,21 @@ module _ (s : Shape) (dead helpers : List ℕ) (new helper : ℕ) (message sums 
     added = added;
     record_after = noted;
     two = λ a b. let e = sym (two_is a b) in (
-      number_only answer (Refused BadNodes) (number ∙ two_is a b),
+      number_only answer (Err BadNodes) (number ∙ two_is a b),
       added ∙ afterwards_refused _ _ BadNodes cause e,
       noted ∙ afterwards_refused _ _ BadNodes cause e,
     );
   }
 
   pub hears_refused : (r : Refusal) → number_of r ≡ hear_refusal narrow s dead helpers new helper message sums heard
-      → Hears s dead helpers new helper message sums sums heard heard (Refused r)
-  hears_refused r e = hears sums heard (Refused r) e (sym (afterwards_refused sums _ r _ e)) (sym (afterwards_refused heard _ r _ e))
+      → Hears s dead helpers new helper message sums sums heard heard (Err r)
+  hears_refused r e = hears sums heard (Err r) e (sym (afterwards_refused sums _ r _ e)) (sym (afterwards_refused heard _ r _ e))
 
   pub hears_done : (sums_after heard_after : List ℕ) → hear_refusal narrow s dead helpers new helper message sums heard ≡ 0
       → sums_after ≡ added_to narrow s dead (position new dead) helper message sums → heard_after ≡ noted helper heard
-      → Hears s dead helpers new helper message sums sums_after heard heard_after Done
+      → Hears s dead helpers new helper message sums sums_after heard heard_after (Ok tt)
   hears_done sums_after heard_after e a n =
-      hears sums_after heard_after Done (sym e) (a ∙ sym (afterwards_done sums _ _ e)) (n ∙ sym (afterwards_done heard _ _ e))
+      hears sums_after heard_after (Ok tt) (sym e) (a ∙ sym (afterwards_done sums _ _ e)) (n ∙ sym (afterwards_done heard _ _ e))
 
 -- ---- finishing
 
@@ -79,7 +78,7 @@ module _ (s : Shape) (dead helpers : List ℕ) (new : ℕ) (sums heard pairs out
   module _ (pairs_after out_after : List ℕ) (answer : Answer) (n : answer_number answer ≡ number)
       (own : pairs_after ≡ afterwards number pairs (finished_pairs narrow s dead helpers rank sums))
       (sent : out_after ≡ afterwards number out (finished_exchanges narrow s dead helpers rank sums)) where
-    step : answer ≡ Done → (calls : List Call) → Calls s dead helpers new (no_sums s dead) (nobody s) calls sums heard
+    step : answer ≡ Ok tt → (calls : List Call) → Calls s dead helpers new (no_sums s dead) (nobody s) calls sums heard
         → (pairs_after ≡ own_pairs narrow s dead helpers rank (brought helpers calls)) × (out_after ≡ exchanges narrow s dead helpers rank (brought helpers calls))
     step d calls w =
         let e = sym n ∙ ap answer_number d in
@@ -92,20 +91,20 @@ module _ (s : Shape) (dead helpers : List ℕ) (new : ℕ) (sums heard pairs out
       own = own;
       sent = sent;
       four = λ l d. let e = four_is l d in (
-        number_only answer (Refused WrongLength) (n ∙ e),
+        number_only answer (Err WrongLength) (n ∙ e),
         own ∙ afterwards_refused pairs _ WrongLength number (sym e),
         sent ∙ afterwards_refused out _ WrongLength number (sym e),
       );
       step = step;
-      all = λ calls w everyone l f g. number_only answer Done (n ∙ calls_all s dead helpers new calls sums heard w everyone l (length pairs) (length out) f g);
+      all = λ calls w everyone l f g. number_only answer (Ok tt) (n ∙ calls_all s dead helpers new calls sums heard w everyone l (length pairs) (length out) f g);
     }
 
   pub finishes_refused : (r : Refusal) → number_of r ≡ finish_refusal narrow s dead helpers new sums heard (length pairs) (length out)
-      → Finishes s dead helpers new sums heard pairs pairs out out (Refused r)
-  finishes_refused r e = finishes pairs out (Refused r) e (sym (afterwards_refused pairs _ r _ e)) (sym (afterwards_refused out _ r _ e))
+      → Finishes s dead helpers new sums heard pairs pairs out out (Err r)
+  finishes_refused r e = finishes pairs out (Err r) e (sym (afterwards_refused pairs _ r _ e)) (sym (afterwards_refused out _ r _ e))
 
   pub finishes_done : (pairs_after out_after : List ℕ) → finish_refusal narrow s dead helpers new sums heard (length pairs) (length out) ≡ 0
       → pairs_after ≡ finished_pairs narrow s dead helpers (position new dead) sums → out_after ≡ finished_exchanges narrow s dead helpers (position new dead) sums
-      → Finishes s dead helpers new sums heard pairs pairs_after out out_after Done
+      → Finishes s dead helpers new sums heard pairs pairs_after out out_after (Ok tt)
   finishes_done pairs_after out_after e a b =
-      finishes pairs_after out_after Done (sym e) (a ∙ sym (afterwards_done pairs _ _ e)) (b ∙ sym (afterwards_done out _ _ e))
+      finishes pairs_after out_after (Ok tt) (sym e) (a ∙ sym (afterwards_done pairs _ _ e)) (b ∙ sym (afterwards_done out _ _ e))

@@ -1,6 +1,8 @@
 -- The record of those heard: where its nodes stand, how it is judged, and what noting a helper makes of it.
 use mathlib.Core.Path.{◌≡◌, refl, sym, ap, ap₂, ◌∙◌}
 use mathlib.Core.Bool.{Bool, true, false, not, ◌&&◌, ◌||◌}
+use mathlib.Core.Logic.{◌⊎◌, inl, inr}
+use Rattle.std.specs.Prelude.{min}
 use mathlib.Core.List.{List, [], ◌∷◌, ◌++◌}
 use Prim.Native.Nat.{ℕ, suc, ◌+◌, ◌-◌, ◌≤◌, ◌<◌}
 use native.Mathlib.Numerals.{add-one}
@@ -10,7 +12,7 @@ use lib.Dec.{ltb}
 use lib.ListN.{length, get_or, take, drop, set, replicate, length-append, drop_of_length-le, length-set, length-take, length-replicate, get_or-replicate}
 use lib.Seq.{take_all, take-suc-set}
 use Rattle.lists.specs.Lists.{all, member, outside}
-use Rattle.lists.proofs.Tests.{both, neither, at_all}
+use Rattle.lists.proofs.Tests.{below_or_not, both, neither, at_all}
 use Rattle.lists.proofs.Members.{member_of, all_member}
 use Rattle.lists.proofs.Scans.{drop_next}
 use Rattle.shape.specs.declared.Shape.{Shape}
@@ -21,7 +23,6 @@ use Rattle.classes.specs.Classes.{batch}
 use Rattle.judging.specs.Refusals.{lists_refusal}
 use Rattle.judging.proofs.Judged.{inside}
 use Rattle.arrival.specs.Record.{heard_count, heard_nodes, nobody, noted, distinct, among, record_bad, caller_bad}
-use Rattle.arrival.specs.Steps.{Counted}
 use Rattle.arrival.proofs.Sets.{Within, within_fits, within_more, distinct_more}
 
 pub count_at : (heard : List ℕ) → heard_count heard ≡ get_or heard 0 0
@@ -36,26 +37,26 @@ count_none (x ∷ xs) h = absurd (omega arith)
 
 -- ---- where the nodes stand
 
-pub counted_none : (heard : List ℕ) → length heard ≡ 0 → Counted heard 0 0
+pub nodes_none : (heard : List ℕ) → length heard ≡ 0 → heard ≡ heard_nodes heard
 unfolding heard_nodes
-counted_none [] h = record { ordered = omega arith; within = omega arith; nodes = refl }
-counted_none (x ∷ xs) h = absurd (omega arith)
+nodes_none [] h = refl
+nodes_none (x ∷ xs) h = absurd (omega arith)
 
--- a record that has all the nodes that it counts
-pub counted_all : (heard : List ℕ) → get_or heard 0 0 < length heard → Counted heard 1 (get_or heard 0 0 + 1)
-unfolding heard_nodes
-counted_all [] h = absurd (omega arith)
-counted_all (x ∷ xs) h = record { ordered = omega arith; within = omega arith; nodes = ap (λ k. take k xs) (let e : x + 1 - 1 ≡ x = omega arith in e) }
+-- all that are counted, or as many as there are
+front : (last x : ℕ) (xs : List ℕ) → last ≡ min (length xs) x → take last xs ≡ take x xs
+front last x xs e = go (below_or_not x (length xs))
+  where
+    go : (x < length xs) ⊎ (length xs ≤ x) → take last xs ≡ take x xs
+    go (inl l) = ap (λ n. take n xs) (omega (arith, e))
+    go (inr l) = take_all last xs (omega (arith, e)) ∙ sym (take_all x xs l)
 
--- and one that has fewer
-pub counted_short : (heard : List ℕ) → 0 < length heard → length heard ≤ get_or heard 0 0 → Counted heard 1 (length heard)
+pub nodes_front : (heard : List ℕ) (last : ℕ) → 0 < length heard → last ≡ min (length (take (length heard - 1) (drop 1 heard))) (get_or heard 0 0)
+    → take last (take (length heard - 1) (drop 1 heard)) ≡ heard_nodes heard
 unfolding heard_nodes
-counted_short [] l h = absurd (omega arith)
-counted_short (x ∷ xs) l h = record {
-  ordered = omega arith;
-  within = omega arith;
-  nodes = take_all (length (x ∷ xs) - 1) xs (omega arith) ∙ sym (take_all x xs (omega arith));
-}
+nodes_front [] last h e = absurd (omega arith)
+nodes_front (x ∷ xs) last h e =
+    let all : take (length (x ∷ xs) - 1) xs ≡ xs = take_all _ xs (omega arith) in
+    ap (take last) all ∙ front last x xs (e ∙ ap (λ l. min (length l) x) all)
 
 -- ---- nodes that are helpers, none of them twice
 

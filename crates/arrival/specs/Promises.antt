@@ -1,11 +1,9 @@
 -- What is promised of hearing and finishing: the number, both ways, each lent buffer when the call returns, and what calls in any order end in.
-use Rattle.std.specs.Prelude.{◌≡◌, ◌≢◌, Bool, true, false, ◌&&◌, ◌||◌, cond, List, [], ◌∷◌, ℕ, ◌+◌, ◌*◌, ◌-◌, ◌<◌, eqb, length, get_or}
+use Rattle.std.specs.Prelude.{◌≡◌, ◌≢◌, Bool, true, false, ◌&&◌, ◌||◌, cond, List, [], ◌∷◌, ℕ, ◌+◌, ◌*◌, ◌-◌, ◌<◌, eqb, length, get_or, Ok, Err}
 use Rattle.lists.specs.Lists.{flat, outside, position}
 use Rattle.shape.specs.declared.Shape.{Shape}
-use Rattle.shape.specs.declared.Answer.{Answer}
-use Rattle.shape.specs.declared.Answer.TheVariants.{Done, Refused}
 use Rattle.shape.specs.declared.Refusal.TheVariants.{BadNodes, WrongLength}
-use Rattle.shape.specs.Refusals.{answer_number, afterwards, shape_bad}
+use Rattle.shape.specs.Refusals.{answer_number, afterwards, shape_bad, Answer}
 use Rattle.code.specs.Code.{narrow}
 use Rattle.classes.specs.Classes.{message_size}
 use Rattle.classes.specs.Steps.{own_pairs, exchanges}
@@ -20,7 +18,7 @@ pub record Hears (s : Shape) (dead helpers : List ℕ) (new helper : ℕ) (messa
       ≡ afterwards (hear_refusal narrow s dead helpers new helper message sums heard) sums (added_to narrow s dead (position new dead) helper message sums)
   pub record_after : heard_after ≡ afterwards (hear_refusal narrow s dead helpers new helper message sums heard) heard (noted helper heard)
   -- "A helper heard a second time, or one not in the list, in the kept record too, is 2 and leaves the sums as they were."
-  pub two : shape_bad s ≡ false → caller_bad (s.k + 1) helpers heard helper ≡ true → (answer ≡ Refused BadNodes) × (sums_after ≡ sums) × (heard_after ≡ heard)
+  pub two : shape_bad s ≡ false → caller_bad (s.k + 1) helpers heard helper ≡ true → (answer ≡ Err BadNodes) × (sums_after ≡ sums) × (heard_after ≡ heard)
 
 -- ---- calls one behind the other
 
@@ -71,14 +69,14 @@ pub record Finishes (s : Shape) (dead helpers : List ℕ) (new : ℕ) (sums hear
       (finished_exchanges narrow s dead helpers (position new dead) sums)
   -- "Finishing before all k+1 are heard is 4.", where nothing before 4 turns it back
   pub four : lists_refusal s dead helpers (outside dead new || record_bad (s.k + 1) helpers heard) 0 ≡ 0 → heard_count heard ≢ s.k + 1
-      → (answer ≡ Refused WrongLength) × (pairs_after ≡ pairs) × (out_after ≡ out)
+      → (answer ≡ Err WrongLength) × (pairs_after ≡ pairs) × (out_after ≡ out)
   -- "with sums begun at zero, nobody heard, and only these calls writing what is kept, every order must end in the pairs and outgoing messages of
   -- document 01's first step"
-  pub step : answer ≡ Done → (calls : List Call) → Calls s dead helpers new (no_sums s dead) (nobody s) calls sums heard
+  pub step : answer ≡ Ok tt → (calls : List Call) → Calls s dead helpers new (no_sums s dead) (nobody s) calls sums heard
       → (pairs_after ≡ own_pairs narrow s dead helpers (position new dead) (brought helpers calls))
       × (out_after ≡ exchanges narrow s dead helpers (position new dead) (brought helpers calls))
   -- and so it ends once all are heard, in an accepted repair and with buffers of their lengths
   pub all : (calls : List Call) → Calls s dead helpers new (no_sums s dead) (nobody s) calls sums heard
       → ((j : ℕ) → j < length helpers → heard_in calls (get_or helpers j 0) ≡ true)
       → lists_refusal s dead helpers (outside dead new) 0 ≡ 0 → length pairs ≡ 2 * message_size s dead → length out ≡ (length dead - 1) * message_size s dead
-      → answer ≡ Done
+      → answer ≡ Ok tt

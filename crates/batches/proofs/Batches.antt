@@ -24,6 +24,18 @@ pub turned_none : (members : List ℕ) (x : ℕ) → turned members 0 x ≡ get_
 unfolding turned
 turned_none members x = xor_zero_r (get_or members x 0)
 
+-- both places of a member's sum are in the batch
+module _ {members : List ℕ} {near far room : ℕ} (A : Apart members near far room) (x : ℕ) (h : x < length members) where
+  pub near_in : bit_xor (get_or members x 0) near < room
+  near_in = rw turned_is at (A.near_low x h)
+
+  pub far_in : bit_xor (get_or members x 0) far < room
+  far_in = rw turned_is at (A.far_low x h)
+
+-- where nothing turns, the near place is the member
+pub first_in : {members : List ℕ} {far room : ℕ} → Apart members 0 far room → (x : ℕ) → x < length members → get_or members x 0 < room
+first_in A x h = rw turned_none at (A.near_low x h)
+
 -- x below n + 1 is below n, or n
 pub upto : (x n : ℕ) → x < n + 1 → (x < n) ⊎ (x ≡ n)
 upto x n h = go (below_or_not x n)
@@ -33,9 +45,6 @@ upto x n h = go (below_or_not x n)
     go (inr l) = inr (omega arith)
 
 module _ (place value : ℕ → ℕ) (old : List ℕ) where
-  pub stored_none : Stored 0 place value old old
-  stored_none = record { long = refl; each = λ x h. absurd (omega arith); rest = λ y h. refl }
-
   pub stored_more : (n t v : ℕ) (now : List ℕ) → Stored n place value old now → t ≡ place n → t < length old → ((x : ℕ) → x < n → place x ≢ place n) → v ≡ value n
       → Stored (n + 1) place value old (set now t v)
   stored_more n t v now A e room own q = record {
@@ -56,11 +65,6 @@ module _ (place value : ℕ → ℕ) where
   pub puts_next : (n t v : ℕ) (old now : List ℕ) → now ≡ puts place value n old → t ≡ place n → v ≡ value n → set now t v ≡ puts place value (suc n) old
   unfolding puts
   puts_next n t v old now e f g = ap (λ z. set z t v) e ∙ ap (λ z. set (puts place value n old) z v) f ∙ ap (set (puts place value n old) (place n)) g
-
-  pub puts_length : (n : ℕ) (old : List ℕ) → length (puts place value n old) ≡ length old
-  unfolding puts
-  puts_length zero old = refl
-  puts_length (suc n) old = length-set (puts place value n old) (place n) (value n) ∙ puts_length n old
 
   pub puts_ext : (place' value' : ℕ → ℕ) (n : ℕ) (old : List ℕ) → ((i : ℕ) → i < n → (place i ≡ place' i) × (value i ≡ value' i)) → puts place value n old ≡ puts place' value' n old
   unfolding puts
@@ -150,9 +154,6 @@ module _ (c : Code) (members : List ℕ) (near far : ℕ) (sums : List ℕ) wher
         (stored_more (turned members far) (left_in c members near sums old) old (n + count) _ _ _ (crossed_more count (omega arith)) refl (A.far_low (n + count) (omega arith))
         (λ x h z. let d : x ≡ n + count = A.own x (n + count) (omega arith) (omega arith) z in omega arith) (left_kept (omega arith) (n + count) (omega arith)))
 
-pub remain_none : (q : ℕ) (value : ℕ → ℕ) (now : List ℕ) → Remain q 0 value now
-remain_none q value now = record { each = λ x h. absurd (omega arith) }
-
 pub remain_more : (q n v : ℕ) (value : ℕ → ℕ) (now : List ℕ) → Remain q n value now → n < length now → v % q ≡ value n → Remain q (n + 1) value (set now n v)
 remain_more q n v value now A room e = record { each = λ x h. go x (upto x n h) }
   where
@@ -161,9 +162,6 @@ remain_more q n v value now A room e = record { each = λ x h. go x (upto x n h)
     go x (inr h) = ap (λ z. get_or (set now n v) z 0 % q) h ∙ ap (λ z. z % q) (get_or-set_same now n v 0 room) ∙ e ∙ ap value (sym h)
 
 module _ (members : List ℕ) (turn : ℕ) (pairs : List ℕ) where
-  pub paired_none : (now : List ℕ) → PairedIn members turn pairs 0 now
-  paired_none now = record { one = λ x h. absurd (omega arith); other = λ x h. absurd (omega arith) }
-
   pub paired_more : (n s t v w room : ℕ) (now : List ℕ) → Apart members 0 turn room → Apart members turn 0 room → PairedIn members turn pairs n now → n < length members
       → length now ≡ room → s ≡ turned members 0 n → t ≡ turned members turn n → v ≡ get_or pairs (n * 2 + 0) 0 → w ≡ get_or pairs (n * 2 + 1) 0
       → PairedIn members turn pairs (n + 1) (set (set now s v) t w)

@@ -17,7 +17,7 @@ use shape::MODULUS;
 fn folded(one: u16, other: u16) -> u16
     ensures { result % narrow.modulus ≡ (one + other) % narrow.modulus }
 {
-    let sum = one as u32 + other as u32;
+    let sum = u32::from(one) + u32::from(other);
     (sum % 65536 + sum / 65536) as u16
 }
 
@@ -26,8 +26,8 @@ fn fold_rows(turn: usize, symbols: &[u16], sums: &mut [u16])
     requires { Apart (range 0 (length sums.old)) 0 turn (length symbols.now) }
     ensures { Remain narrow.modulus (length sums.old) (added_in narrow (range 0 (length sums.old)) turn symbols.now) sums.new }
 {
-    for x in 0..sums.len() {
-        sums[x] = folded(symbols[x], symbols[x ^ turn]);
+    for (x, sum) in sums.iter_mut().enumerate() {
+        *sum = folded(symbols[x], symbols[x ^ turn]);
     }
 }
 
@@ -41,8 +41,8 @@ fn fold_batch(every: bool, members: &[u16], turn: usize, symbols: &[u16], sums: 
         fold_rows(turn, symbols, sums);
         return;
     }
-    for x in 0..members.len() {
-        let a = members[x] as usize;
+    for (x, &member) in members.iter().enumerate() {
+        let a = member as usize;
         sums[x] = folded(symbols[a], symbols[a ^ turn]);
     }
 }
@@ -52,8 +52,8 @@ fn reduce(sums: &mut [u16])
     ensures { sums.new ≡ tabulate (length sums.old) (remainder narrow.modulus sums.old) }
 {
     let q = MODULUS as u16;
-    for x in 0..sums.len() {
-        sums[x] = sums[x] % q;
+    for sum in sums.iter_mut() {
+        *sum %= q;
     }
 }
 
@@ -74,6 +74,7 @@ pub fn pair_batch(members: &[u16], turn: usize, pairs: &[u16], symbols: &mut [u1
 {
     let count = members.len();
     let mut x = 0;
+    // Two sums at a time, by number: with `chunks_exact(2)` zipped with `chunks_exact(4)` the proof did not close.
     while x + 1 < count {
         let a = members[x] as usize;
         let b = members[x + 1] as usize;
@@ -105,8 +106,9 @@ fn differences(sums: &[u16], symbols: &[u16], left: &mut [u16])
     requires { (length sums.now ≡ length left.old) × (length symbols.now ≡ length left.old) × (Low narrow.modulus sums.now) × (Low narrow.modulus symbols.now) }
     ensures { Stored (length left.old) (λ x. x) (λ x. minus narrow.modulus (get_or sums.now x 0) (get_or symbols.now x 0)) left.old left.new }
 {
-    for x in 0..left.len() {
-        left[x] = difference(sums[x], symbols[x]);
+    // Of what is written through an `iter_mut` in a zip a proof knows the length alone.
+    for (x, rest) in left.iter_mut().enumerate() {
+        *rest = difference(sums[x], symbols[x]);
     }
 }
 
@@ -115,8 +117,8 @@ fn store_row(x: usize, turn: usize, row: &[u16], symbols: &mut [u16])
     requires { (x + length row.now ≤ length symbols.old) × ((i : ℕ) → i < length row.now → bit_xor (x + i) turn < length symbols.old) }
     ensures { symbols.new ≡ puts (λ i. bit_xor (x + i) turn) (element row.now) (length row.now) symbols.old }
 {
-    for i in 0..row.len() {
-        symbols[(x + i) ^ turn] = row[i];
+    for (i, &symbol) in row.iter().enumerate() {
+        symbols[(x + i) ^ turn] = symbol;
     }
 }
 
@@ -141,6 +143,7 @@ fn cross_rows(turn: usize, sums: &[u16], symbols: &mut [u16])
     let count = sums.len();
     let mut left = [0u16; RUN];
     let mut x = 0;
+    // The step is the run's length.
     while x < count {
         let run = run_from(count, x);
         cross_run(x, turn, sums, &mut left[..run], symbols);
@@ -166,8 +169,8 @@ pub fn cross_batch(
         cross_rows(far, sums, symbols);
         return;
     }
-    for x in 0..members.len() {
-        let a = members[x] as usize;
+    for (x, &member) in members.iter().enumerate() {
+        let a = member as usize;
         symbols[a ^ far] = difference(sums[x], symbols[a ^ near]);
     }
 }

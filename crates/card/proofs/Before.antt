@@ -1,8 +1,10 @@
 -- Document 02 §9 and the cards of before: without a hearing number a card is packed as before, a card that does not start with 1 is read as
 -- before, and the reader of before turns back every card with a hearing number.
+use Rattle.shape.specs.declared.Refusal.{Refusal}
+use Rattle.std.specs.Prelude.{Result}
 use mathlib.Core.Path.{◌≡◌, refl, sym, ap, ◌∙◌}
 use mathlib.Core.Logic.{◌⊎◌, inl, inr, ◌≢◌}
-use mathlib.Core.Bool.{Bool, true, false, not, ◌||◌}
+use mathlib.Core.Bool.{Bool, true, false, ◌||◌}
 use mathlib.Core.List.{List, [], ◌∷◌, ◌++◌, flat_map}
 use Prim.Native.Nat.{ℕ, zero, suc, ◌-◌, ◌≤◌, ◌<◌}
 use native.Mathlib.Decide.{ℕ_discrete}
@@ -15,7 +17,6 @@ use Rattle.shape.specs.Refusals.{refuse, shape_bad, wrong_length, symbol_bad}
 use Rattle.numbers.specs.Numbers.{most_groups, group_values, numeral, Found, value, malformed, grouped, read_number, Numbers, values, broken, and_then, then_numbers, numbers_by}
 use Rattle.numbers.proofs.Numbers.{never, value_parts, numeral_one, read_one, read_more, grouped_more, Under}
 use Rattle.card.specs.declared.Header.{Header}
-use Rattle.card.specs.declared.Packed.{Packed}
 use Rattle.card.specs.Cards.{plain_numbers, plain_count, header_fields, hearing_lead, header_with, leads, hearing_bad, front_by, header_refusal, card_bytes, card_room, pack_refusal, refused, card, judged, header_by, unpacked_by}
 use Rattle.card.specs.Promises.{Packs}
 use Rattle.card.specs.Before.{header_refusal_before, pack_refusal_before, card_bytes_before, PacksBefore, header_before, unpacked_before}
@@ -52,7 +53,7 @@ module _ (h : Header) (none : h.hearing ≡ 0) where
   bytes_before_lem symbols = ap (λ xs. flat_map (numeral most_groups) (xs ++ symbols)) (numbers_plain h none)
 
   -- "With 0 a card is packed as today."
-  pub packed_as_before : (symbols before after : List ℕ) (answer : Packed) → Packs h symbols before after answer → PacksBefore h symbols before after answer
+  pub packed_as_before : (symbols before after : List ℕ) (answer : Result ℕ Refusal) → Packs h symbols before after answer → PacksBefore h symbols before after answer
   packed_as_before symbols before after answer p = record {
     number = p.number ∙ pack_before symbol_values symbols (length before);
     returned = rw (← (pack_before symbol_values symbols (length before)), ← (bytes_before_lem symbols)) p.returned;

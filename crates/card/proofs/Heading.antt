@@ -2,32 +2,29 @@
 use mathlib.Core.Path.{◌≡◌, refl, sym, ap, ◌∙◌}
 use mathlib.Core.Logic.{◌≢◌}
 use mathlib.Core.List.{List, [], ◌∷◌, ◌++◌}
-use Prim.Native.Nat.{ℕ, zero, suc, ◌+◌, ◌-◌, ◌≤◌}
+use Prim.Native.Nat.{ℕ, zero, suc, ◌+◌, ◌≤◌}
 use native.Mathlib.Omega.{arith}
 use lib.ListN.{length, get_or, drop}
 use lib.Seq.{get_or-append_seam}
-use Rattle.shape.specs.declared.Refusal.{Refusal}
-use Rattle.shape.specs.declared.Refusal.TheVariants as refusal
+use Rattle.std.specs.Prelude.{None}
 use Rattle.card.specs.declared.Header.{Header}
-use Rattle.card.specs.declared.Front.TheVariants as front
-use Rattle.numbers.specs.declared.Number.TheVariants.{Read, Malformed}
-use Rattle.numbers.specs.Numbers.{most_groups, Found, value, malformed, read_number, Numbers, values, broken, and_then, then_numbers, number_at, read_numbers, numbers_by}
-use Rattle.card.specs.Cards.{plain_count, hearing_lead, long_count, header_with, header_of, front_by, front_of, plain_of}
+use Rattle.numbers.specs.Numbers.{most_groups, read_to, Found, value, malformed, read_number, Numbers, values, broken, and_then, then_numbers, number_at, read_numbers, numbers_by}
+use Rattle.card.specs.Cards.{plain_count, hearing_lead, long_count, header_with, header_of, front_by, front_of, plain_of, fronted}
 use Rattle.numbers.proofs.Numbers.{numbers_count}
 use Rattle.numbers.proofs.Places.{number_bad, number_read}
 use Rattle.card.proofs.Fronts.{header_plain, header_long, least_plain, least_long, led_leads, front_none, front_another, front_lead, another_leads, five}
-use Rattle.card.proofs.Reading.{ahead, ahead_broken, ahead_append, Begun, begun, begun_next, begun_bad, begun_end, behind, numbers_behind}
+use Rattle.card.proofs.Reading.{fronted_same, ahead, ahead_broken, ahead_append, Begun, begun, begun_next, begun_bad, begun_end, behind, numbers_behind}
 
 -- ---- five numbers that stand anywhere
 
 module _ {all : Numbers} {bytes : List ℕ} {at : ℕ} where
-  pub plain_bad : {left : ℕ} (b : Begun all bytes (suc left) at) → number_at most_groups bytes at ≡ Malformed → front.Refused refusal.Malformed ≡ plain_of (length bytes) all
+  pub plain_bad : {left : ℕ} (b : Begun all bytes (suc left) at) → number_at most_groups bytes at ≡ None → None ≡ plain_of (length bytes) all
   unfolding plain_of
   plain_bad b e = sym (ap (plain_of (length bytes)) (begun_bad b e))
 
-  pub plain_end : (b : Begun all bytes 0 at) → front.Read (header_with 0 b.numbers) 0 at ≡ plain_of (length bytes) all
+  pub plain_end : (b : Begun all bytes 0 at) → fronted (header_with 0 b.numbers) 0 at ≡ plain_of (length bytes) all
   unfolding plain_of
-  plain_end b = sym (ap (plain_of (length bytes)) (begun_end b) ∙ ap (front.Read (header_with 0 b.numbers) 0) (behind bytes at b.inside))
+  plain_end b = sym (ap (plain_of (length bytes)) (begun_end b) ∙ ap (fronted (header_with 0 b.numbers) 0) (behind bytes at b.inside))
 
 -- numbers that are read in two parts
 unfoldable joined : Numbers → ℕ → Numbers
@@ -63,14 +60,14 @@ led_header xs hearing long = header_long _ (led_leads (xs ++ hearing ∷ [])) �
     front = unfold header_with in rw (five xs (omega arith)).same refl
 
 module _ (bytes : List ℕ) where
-  pub front_bad : front_by most_groups bytes ≡ broken → front.Refused refusal.Malformed ≡ front_of (length bytes) (front_by most_groups bytes)
+  pub front_bad : front_by most_groups bytes ≡ broken → None ≡ front_of (length bytes) (front_by most_groups bytes)
   unfolding front_of
   front_bad e = rw e refl
 
-  pub front_nothing : number_at most_groups bytes 0 ≡ Malformed → front_by most_groups bytes ≡ broken
+  pub front_nothing : number_at most_groups bytes 0 ≡ None → front_by most_groups bytes ≡ broken
   front_nothing e = front_none most_groups bytes (number_bad most_groups bytes 0 e)
 
-  pub front_plain : (v next : ℕ) → number_at most_groups bytes 0 ≡ Read v next → v ≢ hearing_lead
+  pub front_plain : (v next : ℕ) → number_at most_groups bytes 0 ≡ read_to v next → v ≢ hearing_lead
       → plain_of (length bytes) (read_numbers plain_count (drop 0 bytes)) ≡ front_of (length bytes) (front_by most_groups bytes)
   unfolding plain_of front_of
   front_plain v next e d = go (read_numbers plain_count bytes) refl ∙ sym (ap (front_of (length bytes)) (front_another most_groups bytes v (drop next bytes) read d))
@@ -85,19 +82,19 @@ module _ (bytes : List ℕ) where
           rw (header_plain xs t, least_plain xs t) refl
 
   -- a leading 1: six numbers are left
-  module _ (start : ℕ) (e : number_at most_groups bytes 0 ≡ Read hearing_lead start) where
+  module _ (start : ℕ) (e : number_at most_groups bytes 0 ≡ read_to hearing_lead start) where
     led : Begun (front_by most_groups bytes) bytes 6 start
     led =
         let b = begun_next (begun bytes long_count 0 (omega arith)) e in
         record { numbers = b.numbers; whole = front_lead most_groups bytes (drop start bytes) (number_read most_groups bytes 0 hearing_lead start e) ∙ b.whole; inside = b.inside }
 
-    pub led_bad : (cause : Refusal) → plain_of (length bytes) (read_numbers plain_count (drop start bytes)) ≡ front.Refused cause → front_by most_groups bytes ≡ broken
+    pub led_bad : plain_of (length bytes) (read_numbers plain_count (drop start bytes)) ≡ None → front_by most_groups bytes ≡ broken
     unfolding plain_of joined
-    led_bad cause q =
+    led_bad q =
         led.whole ∙ ap (ahead led.numbers) (numbers_parts plain_count 1 6 (drop start bytes) (omega arith) ∙ ap (λ n. joined n 1) (go (read_numbers plain_count (drop start bytes)) q))
         ∙ ahead_broken led.numbers
       where
-        go : (n : Numbers) → plain_of (length bytes) n ≡ front.Refused cause → n ≡ broken
+        go : (n : Numbers) → plain_of (length bytes) n ≡ None → n ≡ broken
         go broken q = refl
         go (values xs rest) q = absurd (let z : ◌≡◌ {A = ℕ} 0 1 = cc in omega arith)
 
@@ -109,19 +106,19 @@ module _ (bytes : List ℕ) where
       pub whole : front_by most_groups bytes ≡ ahead (hearing_lead ∷ numbers) (read_numbers 1 (drop at bytes))
       pub inside : at ≤ length bytes
 
-    pub led_read : (plain : Header) (none at : ℕ) → plain_of (length bytes) (read_numbers plain_count (drop start bytes)) ≡ front.Read plain none at → Led plain at
+    pub led_read : (plain : Header) (none at : ℕ) → plain_of (length bytes) (read_numbers plain_count (drop start bytes)) ≡ fronted plain none at → Led plain at
     unfolding plain_of joined ahead led
     led_read plain none at q = go (read_numbers plain_count (drop start bytes)) refl q
       where
-        go : (n : Numbers) → read_numbers plain_count (drop start bytes) ≡ n → plain_of (length bytes) n ≡ front.Read plain none at → Led plain at
+        go : (n : Numbers) → read_numbers plain_count (drop start bytes) ≡ n → plain_of (length bytes) n ≡ fronted plain none at → Led plain at
         go broken d q = absurd (let z : ◌≡◌ {A = ℕ} 0 1 = cc in omega arith)
         go (values xs rest) d q =
-            let head : header_with 0 xs ≡ plain = cc in
-            let place : length bytes - length rest ≡ at = cc in
+            let same = fronted_same q in
+            let place = same.2 in
             let tail : rest ≡ drop at bytes = numbers_behind plain_count bytes start xs rest d ∙ ap (λ k. drop k bytes) place in
             record {
               numbers = xs;
-              plain_is = sym head;
+              plain_is = sym same.0;
               long = numbers_count most_groups plain_count (drop start bytes) xs rest d;
               whole =
                   led.whole ∙ ap (ahead led.numbers) (numbers_parts plain_count 1 6 (drop start bytes) (omega arith) ∙ ap (λ n. joined n 1) d)
@@ -134,15 +131,15 @@ module _ (bytes : List ℕ) where
       last : Begun (front_by most_groups bytes) bytes 1 at
       last = record { numbers = hearing_lead ∷ w.numbers; whole = w.whole; inside = w.inside }
 
-      pub last_bad : number_at most_groups bytes at ≡ Malformed → front_by most_groups bytes ≡ broken
+      pub last_bad : number_at most_groups bytes at ≡ None → front_by most_groups bytes ≡ broken
       last_bad q = begun_bad last q
 
-      pub last_read : (hearing next : ℕ) → number_at most_groups bytes at ≡ Read hearing next
-          → front.Read (record { shape = plain.shape; node = plain.node; len = plain.len; hearing = hearing }) 1 next ≡ front_of (length bytes) (front_by most_groups bytes)
+      pub last_read : (hearing next : ℕ) → number_at most_groups bytes at ≡ read_to hearing next
+          → fronted (record { shape = plain.shape; node = plain.node; len = plain.len; hearing = hearing }) 1 next ≡ front_of (length bytes) (front_by most_groups bytes)
       unfolding front_of header_with last
       last_read hearing next q =
           let b = begun_next last q in
           let xs = w.numbers in
-          let header = ap (λ p. front.Read (record { shape = p.shape; node = p.node; len = p.len; hearing = hearing }) 1 next) w.plain_is in
+          let header = ap (λ p. fronted (record { shape = p.shape; node = p.node; len = p.len; hearing = hearing }) 1 next) w.plain_is in
           header ∙ sym (ap (front_of (length bytes)) (begun_end b)
           ∙ rw (behind bytes next b.inside, led_header xs hearing w.long, least_long _ (led_leads (xs ++ hearing ∷ []))) refl)

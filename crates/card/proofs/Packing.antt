@@ -1,4 +1,5 @@
 -- Packing keeps its promise: where it turns back, and where the header's numbers and then the symbols are written from the front of the buffer.
+use Rattle.std.specs.Prelude.{Ok, Err}
 use mathlib.Core.Path.{◌≡◌, sym, ap, ◌∙◌}
 use mathlib.Core.Bool.{true}
 use mathlib.Core.List.{List, [], ◌∷◌, flat_map}
@@ -13,7 +14,6 @@ use Rattle.shape.specs.declared.Refusal.{Refusal}
 use Rattle.shape.specs.Refusals.{number_of}
 use Rattle.shape.proofs.Answers.{afterwards_done, afterwards_refused}
 use Rattle.card.specs.declared.Header.{Header}
-use Rattle.card.specs.declared.Packed.TheVariants.{Card, Refused}
 use Rattle.numbers.specs.Numbers.{most_groups, group_values, numeral}
 use Rattle.card.specs.Cards.{header_numbers, card_bytes, pack_refusal}
 use Rattle.card.specs.Promises.{over, Packs}
@@ -35,7 +35,7 @@ module _ (h : Header) (vs : List ℕ) (same : header_numbers h ≡ vs) (before :
   form_written end after w = rw same (omega (arith, w.0), w.1)
 
 module _ (h : Header) (symbols before : List ℕ) where
-  pub packs_refused : (cause : Refusal) → number_of cause ≡ pack_refusal symbol_values h symbols (length before) → Packs h symbols before before (Refused cause)
+  pub packs_refused : (cause : Refusal) → number_of cause ≡ pack_refusal symbol_values h symbols (length before) → Packs h symbols before before (Err cause)
   packs_refused cause e = record { number = e; returned = sym (afterwards_refused [] _ cause _ e); buffer = sym (afterwards_refused before _ cause _ e) }
 
   module _ (taken : pack_refusal symbol_values h symbols (length before) ≡ 0) where
@@ -58,7 +58,7 @@ module _ (h : Header) (symbols before : List ℕ) where
       symbols_fit = omega (arith, fits, ap length head ∙ length-sets before 0 (numerals (header_numbers h)))
 
       pub packs_done : (long : ℕ) (after : List ℕ) → long ≡ at + length (numerals symbols) → after ≡ sets half at (numerals symbols)
-          → Packs h symbols before after (Card long)
+          → Packs h symbols before after (Ok long)
       unfolding over
       packs_done long after e d =
           let parts = card_parts h symbols in

@@ -11,11 +11,11 @@ use lib.ListN.{length, drop, drop_of_length-le, length-drop}
 use lib.Seq.{drop-length}
 use Rattle.lists.proofs.Tests.{below_or_not}
 use Rattle.lists.proofs.Scans.{drop_next}
-use Rattle.shape.specs.declared.Refusal.TheVariants as refusal
-use Rattle.card.specs.declared.Front.TheVariants as front
-use Rattle.numbers.specs.declared.Number.TheVariants.{Read, Malformed}
-use Rattle.numbers.specs.Numbers.{most_groups, Found, value, malformed, read_number, Numbers, values, broken, and_then, then_numbers, number_at, read_numbers, numbers_by}
-use Rattle.card.specs.Cards.{Symbols, bad, got, symbols_number, symbols_read, and_symbol, at_end, then_symbols, read_symbols, symbols_by}
+use Rattle.std.specs.Prelude.{Option, Some, None}
+use Rattle.card.specs.declared.Front.{Front}
+use Rattle.card.specs.declared.Header.{Header}
+use Rattle.numbers.specs.Numbers.{most_groups, read_to, Found, value, malformed, read_number, Numbers, values, broken, and_then, then_numbers, number_at, read_numbers, numbers_by}
+use Rattle.card.specs.Cards.{fronted, header_with, Symbols, bad, got, symbols_number, symbols_read, and_symbol, at_end, then_symbols, read_symbols, symbols_by}
 use Rattle.numbers.proofs.Places.{number_bad, number_read, number_inside, read_behind}
 
 -- ---- the header
@@ -59,18 +59,18 @@ abbrev pub begun : (bytes : List ℕ) (count start : ℕ) → start ≤ length b
 begun bytes count start l = record { numbers = []; whole = ahead_none (read_numbers count (drop start bytes)); inside = l }
 
 module _ {all : Numbers} {bytes : List ℕ} {left at : ℕ} (b : Begun all bytes (suc left) at) where
-  pub begun_step : (v next : ℕ) → number_at most_groups bytes at ≡ Read v next → read_numbers (suc left) (drop at bytes) ≡ and_then v (read_numbers left (drop next bytes))
+  pub begun_step : (v next : ℕ) → number_at most_groups bytes at ≡ read_to v next → read_numbers (suc left) (drop at bytes) ≡ and_then v (read_numbers left (drop next bytes))
   unfolding numbers_by then_numbers
   begun_step v next e = rw (number_read most_groups bytes at v next e)
 
-  abbrev pub begun_next : {v next : ℕ} → number_at most_groups bytes at ≡ Read v next → Begun all bytes left next
+  abbrev pub begun_next : {v next : ℕ} → number_at most_groups bytes at ≡ read_to v next → Begun all bytes left next
   begun_next {v} {next} e = record {
     numbers = b.numbers ++ v ∷ [];
     whole = b.whole ∙ ap (ahead b.numbers) (begun_step v next e) ∙ ahead_one b.numbers v (read_numbers left (drop next bytes));
     inside = number_inside most_groups bytes at v next e;
   }
 
-  pub begun_bad : number_at most_groups bytes at ≡ Malformed → all ≡ broken
+  pub begun_bad : number_at most_groups bytes at ≡ None → all ≡ broken
   unfolding numbers_by then_numbers
   begun_bad e = b.whole ∙ ap (λ f. ahead b.numbers (then_numbers f (read_numbers left))) (number_bad most_groups bytes at e) ∙ ahead_broken b.numbers
 
@@ -108,6 +108,23 @@ numbers_behind (suc count) bytes at vs rest e = go (read_number most_groups (dro
         next (values us t) d' q =
             let same : t ≡ rest = unfold and_then in cc in
             rw (← same) (ih (length bytes - length r) us t (ap (read_numbers count) (sym (read_behind most_groups bytes at v r d)) ∙ d'))
+
+-- what was read of a header
+header_at : Option Front → Header
+header_at None = header_with 0 []
+header_at (Some f) = f.header
+
+least_at : Option Front → ℕ
+least_at None = 0
+least_at (Some f) = f.least
+
+next_at : Option Front → ℕ
+next_at None = 0
+next_at (Some f) = f.next
+
+pub fronted_same : {h g : Header} {least next low behind : ℕ} → fronted h least next ≡ fronted g low behind → (h ≡ g) × (least ≡ low) × (next ≡ behind)
+unfolding header_at least_at next_at
+fronted_same e = (ap header_at e, ap least_at e, ap next_at e)
 
 -- ---- the symbols
 
@@ -166,7 +183,7 @@ module _ (modulus : ℕ) (bytes : List ℕ) (at n i : ℕ) where
   one_more : i < n → n - i ≡ suc (n - (i + 1))
   one_more h = omega arith
 
-  pub scan_bad : i < n → number_at most_groups bytes at ≡ Malformed → read_symbols modulus (n - i) (drop at bytes) ≡ bad 6
+  pub scan_bad : i < n → number_at most_groups bytes at ≡ None → read_symbols modulus (n - i) (drop at bytes) ≡ bad 6
   unfolding symbols_by then_symbols
   scan_bad h e = rw (one_more h, number_bad most_groups bytes at e)
 
@@ -178,7 +195,7 @@ module _ (modulus : ℕ) (bytes : List ℕ) (at n i : ℕ) where
   unfolding symbols_by at_end
   scan_end h l = rw ((let e : n - i ≡ 0 = omega arith in e), drop_of_length-le bytes l)
 
-  module _ (v next : ℕ) (h : i < n) (e : number_at most_groups bytes at ≡ Read v next) where
+  module _ (v next : ℕ) (h : i < n) (e : number_at most_groups bytes at ≡ read_to v next) where
     pub scan_high : modulus ≤ v → read_symbols modulus (n - i) (drop at bytes) ≡ bad 5
     unfolding symbols_by then_symbols
     scan_high l = rw (one_more h, number_read most_groups bytes at v next e, le-ltb v modulus l)
@@ -197,7 +214,7 @@ module _ (modulus : ℕ) (bytes : List ℕ) (at n i : ℕ) where
             record { small = l; rest = w.0; first = ap symbols_read (scan_next l) ∙ w.1 }
         go (inr l) = absurd (never (sym (scan_high l) ∙ g))
 
-  pub kept_never : i < n → number_at most_groups bytes at ≡ Malformed → Good (read_symbols modulus (n - i) (drop at bytes)) → ⊥
+  pub kept_never : i < n → number_at most_groups bytes at ≡ None → Good (read_symbols modulus (n - i) (drop at bytes)) → ⊥
   kept_never h e g = never (sym (scan_bad h e) ∙ g)
 
   pub kept_end : n ≤ i → symbols_read (read_symbols modulus (n - i) (drop at bytes)) ≡ []

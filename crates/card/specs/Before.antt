@@ -1,13 +1,13 @@
 -- Cards before document 02 §9, when no card had a hearing number: what packing promised, and how a card was read. No code is left of it.
-use Rattle.std.specs.Prelude.{◌≡◌, not, ◌||◌, ℕ, ◌*◌, ltb, length}
+use Rattle.shape.specs.declared.Refusal.{Refusal}
+use Rattle.std.specs.Prelude.{◌≡◌, not, ◌||◌, ℕ, ◌*◌, ltb, length, Result}
 use mathlib.Core.List.{List, [], ◌∷◌, ◌++◌, flat_map}
 use Rattle.shape.specs.Shape.{symbol_values, size}
-use Rattle.shape.specs.Refusals.{refuse, shape_bad, wrong_length, symbol_bad, afterwards}
+use Rattle.shape.specs.Refusals.{refuse, shape_bad, wrong_length, symbol_bad, afterwards, answer_number, answer_values}
 use Rattle.numbers.specs.Numbers.{most_groups, numeral, Numbers, values, broken, numbers_by}
 use Rattle.card.specs.declared.Header.{Header}
-use Rattle.card.specs.declared.Packed.{Packed}
 use Rattle.card.specs.Cards.{plain_numbers, plain_count, header_with, card_room, symbols_by, Reading, refused, judged}
-use Rattle.card.specs.Promises.{packed_number, packed_values, over}
+use Rattle.card.specs.Promises.{over}
 
 -- "shape, node, length against k × N (6)"
 unfoldable pub header_refusal_before : Header → ℕ → ℕ
@@ -29,9 +29,9 @@ pack_refusal_before modulus h symbols room =
 unfoldable pub card_bytes_before : Header → List ℕ → List ℕ
 card_bytes_before h symbols = flat_map (numeral most_groups) (plain_numbers h ++ symbols)
 
-pub record PacksBefore (h : Header) (symbols before after : List ℕ) (answer : Packed) : Type 0 where
-  pub number : packed_number answer ≡ pack_refusal_before symbol_values h symbols (length before)
-  pub returned : packed_values answer ≡ afterwards (pack_refusal_before symbol_values h symbols (length before)) [] (length (card_bytes_before h symbols) ∷ [])
+pub record PacksBefore (h : Header) (symbols before after : List ℕ) (answer : Result ℕ Refusal) : Type 0 where
+  pub number : answer_number answer ≡ pack_refusal_before symbol_values h symbols (length before)
+  pub returned : answer_values answer ≡ afterwards (pack_refusal_before symbol_values h symbols (length before)) [] (length (card_bytes_before h symbols) ∷ [])
   pub buffer : after ≡ afterwards (pack_refusal_before symbol_values h symbols (length before)) before (over (card_bytes_before h symbols) before)
 
 -- ---- unpacking

@@ -13,16 +13,14 @@ use Rattle.lists.proofs.Firsts.{first_none, first_found_lem}
 use Rattle.lists.proofs.Places.{Place, place_of}
 use Rattle.shape.specs.declared.Shape.{Shape}
 use Rattle.shape.specs.Shape.{size}
-use Rattle.checking.specs.declared.Checked.TheVariants.{Sound, Unmet}
+use Rattle.std.specs.Prelude.{Some, None}
+use Rattle.checking.specs.declared.Fault.TheVariants.{Unmet}
 use Rattle.code.specs.Code.{narrow}
 use Rattle.code.specs.Archive.{equation, unmet, first_unmet}
 use Rattle.checking.specs.Promises.{checked_by, equation_number, FirstUnmet}
 use Rattle.checking.specs.Steps.{MetTo}
 use Rattle.code.proofs.Unmet.{unmet_upto, unmet_first}
-use Rattle.checking.proofs.Answers.{before_end, sound_at_end}
-
-never : (layer a t : ℕ) → Unmet layer a t ≢ Sound
-never layer a t e = let z : ◌≡◌ {A = ℕ} 0 1 = cc in omega arith
+use Rattle.checking.proofs.Answers.{fault_found, before_end, sound_at_end}
 
 module _ (s : Shape) (nodes : List ℕ) where
   abbrev r : ℕ
@@ -61,13 +59,13 @@ module _ (s : Shape) (nodes : List ℕ) where
   unmet_at place t h e = simp (digits_div place h, digits_mod place h, ne_eqb _ 0 e)
 
   -- the search came to the end
-  pub sound_when : MetBelow (size s * (s.n - s.k)) → Sound ≡ checked_by s (first_unmet narrow s nodes)
+  pub sound_when : MetBelow (size s * (s.n - s.k)) → None ≡ checked_by s (first_unmet narrow s nodes)
   unfolding first_unmet checked_by
   sound_when h = sym (cond_equal _ _ _ (size s * r) (first_none (unmet narrow s nodes) 0 (size s * r) (λ i _ l. h i (omega arith)) ∙ omega arith))
 
   -- the number of an equation names it
   checked_at : (layer a t : ℕ) → layer < s.layers → a < 2 ^ s.n → t < s.n - s.k
-      → checked_by s ((layer * 2 ^ s.n + a) * (s.n - s.k) + t) ≡ Unmet layer a t
+      → checked_by s ((layer * 2 ^ s.n + a) * (s.n - s.k) + t) ≡ Some (Unmet layer a t)
   unfolding checked_by size
   checked_at layer a t hl ha ht =
       cond_unequal _ _ _ (s.layers * 2 ^ s.n * r) (λ e. omega (arith, digits_lt {q = layer * 2 ^ s.n + a} (digits_lt hl ha) ht))
@@ -75,7 +73,7 @@ module _ (s : Shape) (nodes : List ℕ) where
 
   -- it came to an equation that is not met
   pub unmet_when : (layer a t : ℕ) → layer < s.layers → a < 2 ^ s.n → t < s.n - s.k → MetBelow ((layer * 2 ^ s.n + a) * (s.n - s.k) + t)
-      → equation narrow s nodes (layer * 2 ^ s.n + a) t ≢ 0 → Unmet layer a t ≡ checked_by s (first_unmet narrow s nodes)
+      → equation narrow s nodes (layer * 2 ^ s.n + a) t ≢ 0 → Some (Unmet layer a t) ≡ checked_by s (first_unmet narrow s nodes)
   unfolding first_unmet size
   unmet_when layer a t hl ha ht before here =
       sym (checked_at layer a t hl ha ht)
@@ -86,18 +84,18 @@ module _ (s : Shape) (nodes : List ℕ) where
   -- ---- what the answer tells
 
   -- it is sound exactly if no equation is unmet
-  pub sound_none_iff : (checked_by s (first_unmet narrow s nodes) ≡ Sound) ↔ (first_unmet narrow s nodes ≡ size s * (s.n - s.k))
+  pub sound_none_iff : (checked_by s (first_unmet narrow s nodes) ≡ None) ↔ (first_unmet narrow s nodes ≡ size s * (s.n - s.k))
   unfolding checked_by
-  sound_none_iff = sound_at_end _ _ _ (never _ _ _)
+  sound_none_iff = sound_at_end _ _ _ (fault_found _)
 
   -- an equation that is named is the first that is not met
-  pub unmet_tells : (layer a t : ℕ) → checked_by s (first_unmet narrow s nodes) ≡ Unmet layer a t → FirstUnmet s nodes layer a t
+  pub unmet_tells : (layer a t : ℕ) → checked_by s (first_unmet narrow s nodes) ≡ Some (Unmet layer a t) → FirstUnmet s nodes layer a t
   unfolding checked_by equation_number size
   unmet_tells layer a t e =
-      let w = before_end _ _ _ (Unmet layer a t) (never layer a t) e in
+      let w = before_end _ _ _ (Some (Unmet layer a t)) (fault_found _) e in
       named w.0 w.1 (place_of (size s) r (first_unmet narrow s nodes) (omega (arith, w.0, unmet_upto narrow s nodes)))
     where
-      named : first_unmet narrow s nodes ≢ size s * r → Unmet (first_unmet narrow s nodes / r / 2 ^ s.n) (first_unmet narrow s nodes / r % 2 ^ s.n) (first_unmet narrow s nodes % r) ≡ Unmet layer a t
+      named : first_unmet narrow s nodes ≢ size s * r → Some (Unmet (first_unmet narrow s nodes / r / 2 ^ s.n) (first_unmet narrow s nodes / r % 2 ^ s.n) (first_unmet narrow s nodes % r)) ≡ Some (Unmet layer a t)
           → Place (s.layers * 2 ^ s.n) r (first_unmet narrow s nodes) → FirstUnmet s nodes layer a t
       named d same p =
           let q = place_of s.layers (2 ^ s.n) (first_unmet narrow s nodes / r) p.row in

@@ -1,50 +1,42 @@
 -- What is promised of the check.
-use Rattle.std.specs.Prelude.{◌≡◌, ◌≢◌, ◌↔◌, false, cond, List, [], ◌∷◌, ℕ, ◌+◌, ◌-◌, ◌*◌, ◌/◌, ◌%◌, ◌^◌, ◌≤◌, ◌<◌, eqb}
+use Rattle.std.specs.Prelude.{◌≡◌, ◌≢◌, ◌↔◌, false, cond, List, [], ◌∷◌, ℕ, ◌+◌, ◌-◌, ◌*◌, ◌/◌, ◌%◌, ◌^◌, ◌≤◌, ◌<◌, eqb, Result, Ok, Err, Option, Some, None}
+use Rattle.std.specs.Option.{option_or}
 use Rattle.shape.specs.declared.Shape.{Shape}
 use Rattle.shape.specs.Shape.{size, byte_values}
-use Rattle.shape.specs.Refusals.{number_of, afterwards, shape_bad}
+use Rattle.shape.specs.Refusals.{answer_number, afterwards, shape_bad}
 use Rattle.code.specs.Code.{narrow}
 use Rattle.code.specs.Archive.{symbol, equation, Codeword, first_unmet, first_high, LowData, OfTranscript}
 use Rattle.code.specs.Refusals.{check_refusal}
-use Rattle.checking.specs.declared.Checked.{Checked}
-use Rattle.checking.specs.declared.Checked.TheVariants.{Sound, Unmet, HighData, Refused}
+use Rattle.shape.specs.declared.Refusal.{Refusal}
+use Rattle.checking.specs.declared.Fault.{Fault}
+use Rattle.checking.specs.declared.Fault.TheVariants.{Unmet, HighData}
 
--- the number of a check's answer: 0 where it looked, else that of the cause
-abbrev pub checked_number : Checked → ℕ
-checked_number Sound = 0
-checked_number (Unmet layer a t) = 0
-checked_number (HighData node place) = 0
-checked_number (Refused r) = number_of r
+-- what the check answers: nothing found, "sound", or a fault; or why it turned back
+abbrev pub Checked : Type 0
+Checked = Result (Option Fault) Refusal
 
 -- the values of an answer: "the first unmet equation by layer, then a, then t", or "the first such symbol by node then place" (document 02 §5)
 abbrev pub checked_values : Checked → List ℕ
-checked_values Sound = []
-checked_values (Unmet layer a t) = layer ∷ a ∷ t ∷ []
-checked_values (HighData node place) = node ∷ place ∷ []
-checked_values (Refused r) = []
+checked_values (Ok None) = []
+checked_values (Ok (Some (Unmet layer a t))) = layer ∷ a ∷ t ∷ []
+checked_values (Ok (Some (HighData node place))) = node ∷ place ∷ []
+checked_values (Err cause) = []
 
 -- What the equations say: sound, "or the first unmet equation by layer, then a, then t". Equation e is t = e mod r at place e div r, which is
 -- layer × 2^n + a; e is N × r where all are met.
-unfoldable pub checked_by : Shape → ℕ → Checked
+unfoldable pub checked_by : Shape → ℕ → Option Fault
 checked_by s e =
-    cond (eqb e (size s * (s.n - s.k))) Sound
-    (Unmet (e / (s.n - s.k) / 2 ^ s.n) (e / (s.n - s.k) % 2 ^ s.n) (e % (s.n - s.k)))
+    cond (eqb e (size s * (s.n - s.k))) None
+    (Some (Unmet (e / (s.n - s.k) / 2 ^ s.n) (e / (s.n - s.k) % 2 ^ s.n) (e % (s.n - s.k))))
 
 -- What the data symbols say: sound, or "the first such symbol by node then place is named" (document 02 §5). Data symbol e is that of node
 -- e div N at place e mod N; e is k × N where none is above 255.
-unfoldable pub data_by : Shape → ℕ → Checked
-data_by s e = cond (eqb e (s.k * size s)) Sound (HighData (e / size s) (e % size s))
+unfoldable pub data_by : Shape → ℕ → Option Fault
+data_by s e = cond (eqb e (s.k * size s)) None (Some (HighData (e / size s) (e % size s)))
 
--- an answer that is not sound, else the later one
-abbrev pub otherwise : Checked → Checked → Checked
-otherwise Sound later = later
-otherwise (Unmet layer a t) later = Unmet layer a t
-otherwise (HighData node place) later = HighData node place
-otherwise (Refused r) later = Refused r
-
--- What the check answers: "The equations are judged first; otherwise the first such symbol by node then place is named." (document 02 §5)
-unfoldable pub check_answer : Shape → List ℕ → Checked
-check_answer s nodes = otherwise (checked_by s (first_unmet narrow s nodes)) (data_by s (first_high byte_values s nodes))
+-- What the check finds: "The equations are judged first; otherwise the first such symbol by node then place is named." (document 02 §5)
+unfoldable pub check_answer : Shape → List ℕ → Option Fault
+check_answer s nodes = option_or (checked_by s (first_unmet narrow s nodes)) (data_by s (first_high byte_values s nodes))
 
 -- the number of equation t at (layer, a)
 unfoldable pub equation_number : Shape → ℕ → ℕ → ℕ → ℕ
@@ -71,13 +63,13 @@ pub record FirstHigh (s : Shape) (nodes : List ℕ) (node place : ℕ) : Type 0 
   pub before : (i p : ℕ) → p < size s → symbol_number s i p < symbol_number s node place → symbol s nodes i p < byte_values
 
 pub record Checks (s : Shape) (nodes : List ℕ) (answer : Checked) : Type 0 where
-  pub number : checked_number answer ≡ check_refusal narrow s nodes
-  pub returned : checked_values answer ≡ afterwards (check_refusal narrow s nodes) [] (checked_values (check_answer s nodes))
-  pub found : check_refusal narrow s nodes ≡ 0 → answer ≡ check_answer s nodes
+  pub number : answer_number answer ≡ check_refusal narrow s nodes
+  pub returned : checked_values answer ≡ afterwards (check_refusal narrow s nodes) [] (checked_values (Ok (check_answer s nodes)))
+  pub found : check_refusal narrow s nodes ≡ 0 → answer ≡ Ok (check_answer s nodes)
   -- "sound only if, besides the equations, nodes 0 to k−1 hold nothing above 255" (document 02 §5), and then always
-  pub sound : shape_bad s ≡ false → (answer ≡ Sound) ↔ (Codeword narrow s nodes × LowData byte_values s nodes)
+  pub sound : shape_bad s ≡ false → (answer ≡ Ok None) ↔ (Codeword narrow s nodes × LowData byte_values s nodes)
   -- "A sound archive must be a transcript's." (document 02 §5): sound exactly if the nodes are what writing some k × N bytes gives
-  pub transcript : shape_bad s ≡ false → (answer ≡ Sound) ↔ OfTranscript byte_values narrow s nodes
-  pub unmet : (layer a t : ℕ) → answer ≡ Unmet layer a t → FirstUnmet s nodes layer a t
+  pub transcript : shape_bad s ≡ false → (answer ≡ Ok None) ↔ OfTranscript byte_values narrow s nodes
+  pub unmet : (layer a t : ℕ) → answer ≡ Ok (Some (Unmet layer a t)) → FirstUnmet s nodes layer a t
   -- where a symbol is named, all equations are met
-  pub high : (node place : ℕ) → answer ≡ HighData node place → Codeword narrow s nodes × FirstHigh s nodes node place
+  pub high : (node place : ℕ) → answer ≡ Ok (Some (HighData node place)) → Codeword narrow s nodes × FirstHigh s nodes node place

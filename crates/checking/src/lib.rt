@@ -7,46 +7,44 @@ ghost use Rattle.shape.specs.Refusals.{shape_bad, answer_number};
 ghost use Rattle.code.specs.Code.{narrow};
 ghost use Rattle.code.specs.Archive.{first_unmet, first_high};
 ghost use Rattle.code.specs.Refusals.{check_refusal};
-ghost use Rattle.checking.specs.Promises.{checked_by, data_by, otherwise, check_answer, Checks};
+ghost use Rattle.checking.specs.Promises.{checked_by, data_by, check_answer, Checks};
 ghost use Rattle.checking.specs.Steps.{MetTo};
 
 use code::{gathered, node_numbers, points_at};
 use column::parity;
 use comparing::listed_met;
 use patterns::pays;
-use shape::{Answer, BYTE_VALUES, MODULUS, Refusal, Shape, shape_bad, size, symbol_bad, two_to};
+use shape::{BYTE_VALUES, MODULUS, Refusal, Shape, shape_bad, size, symbol_bad, two_to};
 use tables::marks;
 
-// What the check answers: sound, or "the first unmet equation by layer, then a, then t", or, where all equations are met, "the first such
-// symbol by node then place", one of nodes 0 to k-1 that is above 255 (document 02 §5).
+// What the check finds: "the first unmet equation by layer, then a, then t", or, where all equations are met, "the first such symbol by node
+// then place", one of nodes 0 to k-1 that is above 255 (document 02 §5).
 #[derive(Clone, Copy)]
-pub enum Checked {
-    Sound,
+pub enum Fault {
     Unmet { layer: usize, a: usize, t: usize },
     HighData { node: usize, place: usize },
-    Refused(Refusal),
 }
 
 // Causes 1, 4 and 5 of a check, in this order.
-fn judge_check(s: Shape, nodes: &[u16]) -> Answer
+fn judge_check(s: Shape, nodes: &[u16]) -> Result<(), Refusal>
     ensures { answer_number result ≡ check_refusal narrow s nodes.now }
 {
     if shape_bad(s) {
-        return Answer::Refused(Refusal::BadShape);
+        return Err(Refusal::BadShape);
     }
     let n = s.n;
     if nodes.len() != n * size(s) {
-        return Answer::Refused(Refusal::WrongLength);
+        return Err(Refusal::WrongLength);
     }
     if symbol_bad(MODULUS, nodes) {
-        return Answer::Refused(Refusal::BadSymbol);
+        return Err(Refusal::BadSymbol);
     }
-    Answer::Done
+    Ok(())
 }
 
 // The first equation whose sum is not 0, where all those at the a below `from` are met. The points and the column of a place serve all
 // its equations.
-fn first_unmet(s: Shape, nodes: &[u16], from: usize) -> Checked
+fn first_unmet(s: Shape, nodes: &[u16], from: usize) -> Option<Fault>
     requires { (check_refusal narrow s nodes.now ≡ 0) × MetTo s nodes.now from }
     ensures { result ≡ checked_by s (first_unmet narrow s nodes.now) }
 {
@@ -55,21 +53,19 @@ fn first_unmet(s: Shape, nodes: &[u16], from: usize) -> Checked
     let layers = s.layers;
     let two = two_to(n);
     let r = n - k;
-    let mut found = Checked::Sound;
-    'equations: for layer in 0..layers {
+    for layer in 0..layers {
         for a in from..two {
             let points = points_at(n, a);
             let column = gathered(nodes, n, layers * two, layer * two + a);
             let sums = parity(MODULUS, r, &points[..n], &column[..n]);
             for t in 0..r {
                 if sums[t] != 0 {
-                    found = Checked::Unmet { layer, a, t };
-                    break 'equations;
+                    return Some(Fault::Unmet { layer, a, t });
                 }
             }
         }
     }
-    found
+    None
 }
 
 // How many a have all their equations met, in every layer: nodes k to n-1 hold there what would be filled in from nodes 0 to k-1.
@@ -98,7 +94,7 @@ fn rows_pay(s: Shape, list: &[usize]) -> bool
 }
 
 // The first equation whose sum is not 0, looked for by rows first where that pays.
-fn search(s: Shape, nodes: &[u16]) -> Checked
+fn search(s: Shape, nodes: &[u16]) -> Option<Fault>
     requires { check_refusal narrow s nodes.now ≡ 0 }
     ensures { result ≡ checked_by s (first_unmet narrow s nodes.now) }
 {
@@ -111,53 +107,42 @@ fn search(s: Shape, nodes: &[u16]) -> Checked
 }
 
 // The first data symbol above 255. All are looked at together before they are one by one: an archive that was written has none.
-fn first_high(s: Shape, nodes: &[u16]) -> Checked
+fn first_high(s: Shape, nodes: &[u16]) -> Option<Fault>
     requires { check_refusal narrow s nodes.now ≡ 0 }
     ensures { result ≡ data_by s (first_high byte_values s nodes.now) }
 {
     let k = s.k;
     let each = size(s);
     let count = k * each;
-    if !symbol_bad(BYTE_VALUES, &nodes[..count]) {
-        return Checked::Sound;
+    let data = &nodes[..count];
+    if !symbol_bad(BYTE_VALUES, data) {
+        return None;
     }
-    for e in 0..count {
-        if BYTE_VALUES <= nodes[e] as u32 {
-            return Checked::HighData {
+    for (e, &symbol) in data.iter().enumerate() {
+        if BYTE_VALUES <= symbol as u32 {
+            return Some(Fault::HighData {
                 node: e / each,
                 place: e % each,
-            };
+            });
         }
     }
-    Checked::Sound
-}
-
-// An answer that is not sound, else the later one.
-fn otherwise(first: Checked, later: Checked) -> Checked
-    ensures { result ≡ otherwise first later }
-{
-    if let Checked::Sound = first {
-        return later;
-    }
-    first
+    None
 }
 
 // "The equations are judged first", all of them: the data symbols say something only where these are met.
-fn look(s: Shape, nodes: &[u16]) -> Checked
+fn look(s: Shape, nodes: &[u16]) -> Option<Fault>
     requires { check_refusal narrow s nodes.now ≡ 0 }
     ensures { result ≡ check_answer s nodes.now }
 {
     let equations = search(s, nodes);
     let symbols = first_high(s, nodes);
-    otherwise(equations, symbols)
+    equations.or(symbols)
 }
 
-// The check of all n nodes.
-pub fn check(s: Shape, nodes: &[u16]) -> Checked
+// The check of all n nodes: the first fault, or none where they are sound.
+pub fn check(s: Shape, nodes: &[u16]) -> Result<Option<Fault>, Refusal>
     ensures { Checks s nodes.now result }
 {
-    match judge_check(s, nodes) {
-        Answer::Refused(cause) => Checked::Refused(cause),
-        Answer::Done => look(s, nodes),
-    }
+    judge_check(s, nodes)?;
+    Ok(look(s, nodes))
 }

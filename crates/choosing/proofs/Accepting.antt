@@ -14,10 +14,9 @@ use Rattle.lists.proofs.Members.{all_member, rising_below}
 use Rattle.lists.proofs.Flats.{piece_length, piece_at}
 use Rattle.lists.proofs.Parts.{row_within}
 use Rattle.shape.specs.declared.Shape.{Shape}
-use Rattle.shape.specs.declared.Answer.{Answer}
-use Rattle.shape.specs.declared.Answer.TheVariants.{Done}
+use Rattle.std.specs.Prelude.{Ok}
 use Rattle.shape.specs.Shape.{most_nodes, most_layers, size, within, shape_good}
-use Rattle.shape.specs.Refusals.{answer_number, refuse, shape_bad, repair_bad, layers_bad, wrong_length, symbol_bad}
+use Rattle.shape.specs.Refusals.{answer_number, refuse, shape_bad, repair_bad, layers_bad, wrong_length, symbol_bad, Answer}
 use Rattle.shape.proofs.Accepted.{passed, repair_accepted}
 use Rattle.shape.proofs.Answers.{number_only}
 use Rattle.numbers.specs.Numbers.{Numbers, values, broken, read_numbers, most_groups}
@@ -29,7 +28,6 @@ use Rattle.classes.specs.Classes.{batch, node, message_size}
 use Rattle.judging.specs.Refusals.{lists_refusal, message_refusal, first_step_refusal, second_step_refusal, node_good, whole_refusal}
 use Rattle.repair.specs.Promises.{HelperMessage, FirstStep, SecondStep, Repaired}
 use Rattle.transfers.specs.Plan.{line, text_or, left_over, lists_number, with_nodes, with_lists, shape_number, with_shape, with_front, front_count, printed}
-use Rattle.choosing.specs.declared.Chosen.TheVariants.{Layers}
 use Rattle.choosing.specs.Layers.{serves, counts_bad, losses_bad, layers_refusal}
 use Rattle.choosing.specs.Promises.{LayersAccepted, Chooses}
 use Rattle.choosing.proofs.Promised.{says_serves}
@@ -50,7 +48,7 @@ other_layers n k l m e low high =
     ap not (ap₂ ◌&&◌ counts (ap₂ ◌&&◌ (le-leb 1 m low) (le-leb m most_layers high)))
 
 -- L was chosen for a list of losses
-module _ (n k : ℕ) (losses : List ℕ) (layers : ℕ) (chosen : Chooses n k losses (Layers layers)) where
+module _ (n k : ℕ) (losses : List ℕ) (layers : ℕ) (chosen : Chooses n k losses (Ok layers)) where
   -- the shape of an archive written with that L
   abbrev pub shape : Shape
   shape = record { n = n; k = k; layers = layers }
@@ -132,15 +130,15 @@ module _ (n k : ℕ) (losses : List ℕ) (layers : ℕ) (chosen : Chooses n k lo
 
     -- Of an archive written with that L the helpers still hold what was written on them, and the other nodes anything. It is repaired,
     -- whichever dead and helpers of such a size: each dead node ends with what was written on it.
-    pub written_repaired : (bytes before written nodes nodes_after wire wire_after : List ℕ) (answer : Answer) → Writes shape bytes before written Done
+    pub written_repaired : (bytes before written nodes nodes_after wire wire_after : List ℕ) (answer : Answer) → Writes shape bytes before written (Ok tt)
         → length nodes ≡ n * size shape
         → ((j : ℕ) → j < length helpers → piece (size shape) (get_or helpers j 0) nodes ≡ piece (size shape) (get_or helpers j 0) written)
         → repair_bad shape dead helpers ≡ false → length wire ≡ length dead * (k + length dead) * message_size shape dead
         → Repaired shape dead helpers nodes nodes_after wire wire_after answer
-        → (answer ≡ Done) × ((u : ℕ) → u < length dead → piece (size shape) (node dead u) nodes_after ≡ piece (size shape) (node dead u) written)
+        → (answer ≡ Ok tt) × ((u : ℕ) → u < length dead → piece (size shape) (node dead u) nodes_after ≡ piece (size shape) (node dead u) written)
     unfolding whole_refusal wrong_length
     written_repaired bytes before written nodes nodes_after wire wire_after answer w full held lists long p =
-        (number_only answer Done (p.number ∙ none), (p.whole none).exact written word held)
+        (number_only answer (Ok tt) (p.number ∙ none), (p.whole none).exact written word held)
       where
         word : Codeword narrow shape written
         word = w.codeword refl

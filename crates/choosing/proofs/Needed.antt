@@ -1,11 +1,11 @@
 -- What a list of losses needs: the layers that serve it are the multiples of one number, which the loop works out.
-use mathlib.Core.Path.{◌≡◌, refl, sym, ap, ap₂, ◌∙◌}
-use mathlib.Core.Bool.{true, false, ◌&&◌, and-true, and_assoc, not-not}
+use mathlib.Core.Path.{◌≡◌, refl, sym, ap, ap₂, subst, ◌∙◌}
+use mathlib.Core.Bool.{true, false, not, ◌&&◌, and-true, and_assoc, not-not}
 use mathlib.Core.List.{List}
 use Prim.Native.Nat.{ℕ, ◌+◌, ◌%◌, ◌≤◌, ◌<◌}
 use native.Mathlib.Nat.{mod-eq_of_lt, mod_self, mod-one, le_of_dvd, dvd_of_mod-eq-zero}
 use native.Mathlib.Omega.{arith}
-use borrow.Author.Tests.{eqb-true, eq-eqb, ne_eqb}
+use borrow.Author.Tests.{eqb-true, eq-eqb, ne_eqb, not-false}
 use lib.Dec.{eqb}
 use lib.ListN.{length, get_or, drop}
 use Rattle.lists.specs.Lists.{all, range}
@@ -13,11 +13,16 @@ use Rattle.lists.proofs.Scans.{drop_next, all_end}
 use Rattle.lists.proofs.Tests.{all_at}
 use Rattle.lists.proofs.Tables.{range_length, range_at}
 use Rattle.lists.proofs.Firsts.{first_none, first_found_lem}
-use Rattle.shape.specs.Shape.{most_nodes, most_layers}
+use Rattle.shape.specs.Shape.{most_nodes, most_layers, within}
 use Rattle.shape.specs.Batches.{odd_part}
-use Rattle.shape.specs.Refusals.{layers_bad}
+use Rattle.std.specs.Prelude.{Result, Ok, Err}
+use Rattle.shape.specs.declared.Refusal.{Refusal}
+use Rattle.shape.specs.declared.Refusal.TheVariants.{BadNodes}
+use Rattle.shape.specs.Refusals.{answer_number, answer_values, layers_bad}
+use Rattle.shape.proofs.Accepted.{passed}
+use Rattle.shape.proofs.Answers.{turned_back}
 use Rattle.choosing.specs.Layers.{serves, serves_all, least_layers}
-use Rattle.choosing.specs.Promises.{Common}
+use Rattle.choosing.specs.Promises.{Common, Needed}
 
 -- ---- one loss
 
@@ -76,6 +81,30 @@ module _ (losses : List ℕ) (i least : ℕ) (N : NeededFrom losses i least) whe
   -- behind the last loss the layers that serve the list are the multiples of `least`
   pub needed_all : length losses ≤ i → (m : ℕ) → serves_all losses m ≡ eqb (m % least) 0
   needed_all end m = N.exactly m ∙ ap (λ b. eqb (m % least) 0 && b) (all_end (serves m) losses i end) ∙ and-true (eqb (m % least) 0)
+
+-- ---- what the pass finds
+
+-- an answer that is a number has one value
+value_only : {found other : ℕ} → ◌≡◌ {A = Result ℕ Refusal} (Ok found) (Ok other) → found ≡ other
+value_only e = ap (λ xs. get_or xs 0 0) (ap answer_values e)
+
+module _ (most : ℕ) (losses : List ℕ) where
+  pub needed_outside : all (within 1 most) losses ≡ false → Needed most losses (Err BadNodes)
+  needed_outside e = record {
+    number = rw e refl;
+    positive = λ least z. absurd (turned_back BadNodes least z);
+    multiples = λ least z. absurd (turned_back BadNodes least z);
+  }
+
+  pub needed_inside : (least : ℕ) → all (within 1 most) losses ≡ true → 0 < least → ((m : ℕ) → serves_all losses m ≡ eqb (m % least) 0) → Needed most losses (Ok least)
+  needed_inside least e some exactly = record {
+    number = rw e refl;
+    positive = λ other z. subst (λ x. 0 < x) (value_only z) some;
+    multiples = λ other z m. exactly m ∙ ap (λ x. eqb (m % x) 0) (value_only z);
+  }
+
+  pub needed_ranged : (found : Result ℕ Refusal) (least : ℕ) → Needed most losses found → found ≡ Ok least → all (within 1 most) losses ≡ true
+  needed_ranged found least N e = not-false _ (passed (not (all (within 1 most) losses)) 1 0 (sym N.number ∙ ap answer_number e)).0
 
 -- ---- the smallest L
 

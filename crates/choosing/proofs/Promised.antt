@@ -1,6 +1,6 @@
 -- What the choice promises: from the number and the layers returned, the request's claims.
 use mathlib.Core.Path.{◌≡◌, refl, sym, ap, ◌∙◌}
-use mathlib.Core.Bool.{Bool, true, false, true≢false}
+use mathlib.Core.Bool.{Bool, true, false, not, true≢false}
 use mathlib.Core.List.{List, [], ◌∷◌}
 use Prim.Native.Nat.{ℕ, ◌+◌, ◌-◌, ◌/◌, ◌%◌, ◌≤◌, ◌<◌}
 use native.Mathlib.Nat.{div-mul_cancel, dvd_of_mod-eq-zero, mul-mod_left}
@@ -14,15 +14,14 @@ use Rattle.lists.proofs.Firsts.{First, first_is}
 use Rattle.shape.specs.Shape.{most_layers, within}
 use Rattle.shape.specs.Batches.{odd_part}
 use Rattle.shape.specs.declared.Refusal.{Refusal}
-use Rattle.shape.specs.declared.Refusal.TheVariants.{BadShape, BadNodes, NoLayers}
-use Rattle.shape.specs.Refusals.{number_of, afterwards, refuse, shape_bad}
+use Rattle.shape.specs.declared.Refusal.TheVariants.{BadShape, NoLayers}
+use Rattle.shape.specs.Refusals.{number_of, answer_number, answer_values, afterwards, refuse, shape_bad}
 use Rattle.shape.proofs.Accepted.{passed}
-use Rattle.shape.proofs.Answers.{afterwards_refused}
+use Rattle.shape.proofs.Answers.{number_positive, afterwards_refused}
 use Rattle.shape.proofs.Batches.{batch_parted, odd_only}
-use Rattle.choosing.specs.declared.Chosen.{Chosen}
-use Rattle.choosing.specs.declared.Chosen.TheVariants.{Layers, Refused}
+use Rattle.std.specs.Prelude.{Result, Ok, Err}
 use Rattle.choosing.specs.Layers.{serves, serves_all, least_layers, counts_bad, losses_bad, no_layers, layers_refusal}
-use Rattle.choosing.specs.Promises.{chosen_number, chosen_values, Serves, ServesEach, Chooses}
+use Rattle.choosing.specs.Promises.{Serves, ServesEach, Chooses, Needed}
 use Rattle.choosing.proofs.Needed.{serves_multiple}
 
 -- ---- the test and the words
@@ -81,13 +80,13 @@ module _ (n k : ℕ) (losses : List ℕ) where
       go false false true e = refl
       go false false false e = absurd (omega arith)
 
-  module _ (answer : Chosen) (number : chosen_number answer ≡ layers_refusal n k losses)
-      (returned : chosen_values answer ≡ afterwards (layers_refusal n k losses) [] (least_layers losses ∷ [])) where
-    chosen_least : (layers : ℕ) → answer ≡ Layers layers → (layers ≡ least_layers losses) × (least_layers losses ≤ most_layers)
+  module _ (answer : Result ℕ Refusal) (number : answer_number answer ≡ layers_refusal n k losses)
+      (returned : answer_values answer ≡ afterwards (layers_refusal n k losses) [] (least_layers losses ∷ [])) where
+    chosen_least : (layers : ℕ) → answer ≡ Ok layers → (layers ≡ least_layers losses) × (least_layers losses ≤ most_layers)
     unfolding afterwards
     chosen_least layers e =
-        let z = sym number ∙ ap chosen_number e in
-        (head (sym (ap chosen_values e) ∙ returned ∙ ap (λ r. afterwards r [] (least_layers losses ∷ [])) z), accepted_least z)
+        let z = sym number ∙ ap answer_number e in
+        (head (sym (ap answer_values e) ∙ returned ∙ ap (λ r. afterwards r [] (least_layers losses ∷ [])) z), accepted_least z)
       where
         head : {a b : ℕ} → ◌≡◌ {A = List ℕ} (a ∷ []) (b ∷ []) → a ≡ b
         head p = ap (λ xs. get_or xs 0 0) p
@@ -99,34 +98,42 @@ module _ (n k : ℕ) (losses : List ℕ) where
       range = λ layers e. let c = chosen_least layers e in (rw c.0 first.from, rw c.0 c.1);
       served = λ layers e. let c = chosen_least layers e in all_each losses layers (rw c.0 (first.passes (omega (arith, c.1))));
       smallest = λ layers fewer e l m. fails_each losses fewer (first.before fewer l (rw (← (chosen_least layers e).0) m));
-      none = λ e layers l m. fails_each losses layers (first.before layers l (omega (arith, eleven_over (sym number ∙ ap chosen_number e))));
+      none = λ e layers l m. fails_each losses layers (first.before layers l (omega (arith, eleven_over (sym number ∙ ap answer_number e))));
     }
       where
         first : First (serves_all losses) 1 most_layers (least_layers losses)
         first = least_first losses
 
-  refused : (cause : Refusal) → number_of cause ≡ layers_refusal n k losses → Chooses n k losses (Refused cause)
-  refused cause e = chooses (Refused cause) e (sym (afterwards_refused [] (least_layers losses ∷ []) cause (layers_refusal n k losses) e))
+  refused : (cause : Refusal) → number_of cause ≡ layers_refusal n k losses → Chooses n k losses (Err cause)
+  refused cause e = chooses (Err cause) e (sym (afterwards_refused [] (least_layers losses ∷ []) cause (layers_refusal n k losses) e))
 
   -- ---- the exits, one behind the other
 
-  pub counts_refused : shape_bad (record { n = n; k = k; layers = 1 }) ≡ true → Chooses n k losses (Refused BadShape)
+  pub counts_refused : shape_bad (record { n = n; k = k; layers = 1 }) ≡ true → Chooses n k losses (Err BadShape)
   unfolding layers_refusal counts_bad
   counts_refused e = refused BadShape (rw e refl)
 
   module _ (counts : shape_bad (record { n = n; k = k; layers = 1 }) ≡ false) where
-    pub losses_refused : all (within 1 (n - k - 1)) losses ≡ false → Chooses n k losses (Refused BadNodes)
+    -- the pass over the losses turned back, which it does with 2 alone
+    pub turned_for : (found : Result ℕ Refusal) (cause : Refusal) → Needed (n - k - 1) losses found → found ≡ Err cause → Chooses n k losses (Err cause)
     unfolding layers_refusal counts_bad losses_bad
-    losses_refused e = refused BadNodes (rw (counts, e) refl)
+    turned_for found cause N e = refused cause (go (all (within 1 (n - k - 1)) losses) refl)
+      where
+        two : number_of cause ≡ refuse (not (all (within 1 (n - k - 1)) losses)) 2 0
+        two = sym (ap answer_number e) ∙ N.number
+
+        go : (b : Bool) → all (within 1 (n - k - 1)) losses ≡ b → number_of cause ≡ layers_refusal n k losses
+        go true t = absurd (omega (arith, number_positive cause, two ∙ ap (λ x. refuse (not x) 2 0) t))
+        go false t = two ∙ ap (λ x. refuse (not x) 2 0) t ∙ rw (counts, t) refl
 
     module _ (judged : all (within 1 (n - k - 1)) losses ≡ true) where
-      pub none_refused : most_layers < least_layers losses → Chooses n k losses (Refused NoLayers)
+      pub none_refused : most_layers < least_layers losses → Chooses n k losses (Err NoLayers)
       unfolding layers_refusal counts_bad losses_bad no_layers
       none_refused l = refused NoLayers (rw (counts, judged, lt-ltb _ _ l) refl)
 
-      pub chosen : (layers : ℕ) → least_layers losses ≡ layers → layers ≤ most_layers → Chooses n k losses (Layers layers)
+      pub chosen : (layers : ℕ) → least_layers losses ≡ layers → layers ≤ most_layers → Chooses n k losses (Ok layers)
       unfolding layers_refusal counts_bad losses_bad no_layers afterwards
-      chosen layers e l = chooses (Layers layers) (sym none) (rw (none, e) refl)
+      chosen layers e l = chooses (Ok layers) (sym none) (rw (none, e) refl)
         where
           none : layers_refusal n k losses ≡ 0
           none = rw (counts, judged, le-ltb most_layers (least_layers losses) (rw e l)) refl

@@ -9,28 +9,28 @@ use Rattle.lists.specs.Lists.{all, member, first_from}
 use Rattle.lists.proofs.Tests.{at_all}
 use Rattle.lists.proofs.Members.{member_of, all_member}
 use Rattle.shape.specs.Shape.{most_layers, within}
-use Rattle.shape.specs.Refusals.{afterwards}
+use Rattle.shape.specs.declared.Refusal.{Refusal}
+use Rattle.shape.specs.Refusals.{answer_number, answer_values, afterwards}
 use Rattle.shape.proofs.Answers.{number_positive}
-use Rattle.choosing.specs.declared.Chosen.{Chosen}
-use Rattle.choosing.specs.declared.Chosen.TheVariants.{Layers, Refused}
+use Rattle.std.specs.Prelude.{Result, Ok, Err}
 use Rattle.choosing.specs.Layers.{serves, serves_all, least_layers, counts_bad, losses_bad, no_layers, layers_refusal}
-use Rattle.choosing.specs.Promises.{chosen_number, chosen_values, Chooses}
+use Rattle.choosing.specs.Promises.{Chooses}
 
 least_none : least_layers [] ≡ 1
 unfolding least_layers first_from serves_all all
 least_none = refl
 
 -- "the empty list gives 1": a call that is handed it, and an n and k in their ranges
-pub empty_one : (n k : ℕ) (answer : Chosen) → counts_bad n k ≡ false → Chooses n k [] answer → answer ≡ Layers 1
+pub empty_one : (n k : ℕ) (answer : Result ℕ Refusal) → counts_bad n k ≡ false → Chooses n k [] answer → answer ≡ Ok 1
 unfolding afterwards layers_refusal losses_bad no_layers all
 empty_one n k answer e p = go answer (p.number ∙ none) (p.returned ∙ rw (none, least_none) refl)
   where
     none : layers_refusal n k [] ≡ 0
     none = rw (e, least_none) refl
 
-    go : (a : Chosen) → chosen_number a ≡ 0 → chosen_values a ≡ 1 ∷ [] → a ≡ Layers 1
-    go (Layers layers) z v = ap (λ xs. Layers (get_or xs 0 0)) v
-    go (Refused cause) z v = absurd (omega (arith, number_positive cause))
+    go : (a : Result ℕ Refusal) → answer_number a ≡ 0 → answer_values a ≡ 1 ∷ [] → a ≡ Ok 1
+    go (Ok layers) z v = ap (λ xs. Ok (get_or xs 0 0)) v
+    go (Err cause) z v = absurd (omega (arith, number_positive cause))
 
 -- what passes at every value of a list passes at every value of a list that has no others
 all_fewer : (p : ℕ → Bool) (xs ys : List ℕ) → ((h : ℕ) → member h ys ≡ member h xs) → all p xs ≡ true → all p ys ≡ true
@@ -55,7 +55,7 @@ module _ (xs ys : List ℕ) (same : (h : ℕ) → member h xs ≡ member h ys) w
   refusal_same n k = rw (all_same (within 1 (n - k - 1)), least_same) refl
 
   -- give the same number and the same layers
-  pub values_decide : (n k : ℕ) (a b : Chosen) → Chooses n k xs a → Chooses n k ys b → (chosen_number a ≡ chosen_number b) × (chosen_values a ≡ chosen_values b)
+  pub values_decide : (n k : ℕ) (a b : Result ℕ Refusal) → Chooses n k xs a → Chooses n k ys b → (answer_number a ≡ answer_number b) × (answer_values a ≡ answer_values b)
   values_decide n k a b p q = (
     p.number ∙ refusal_same n k ∙ sym q.number,
     p.returned ∙ rw (refusal_same n k, least_same) refl ∙ sym q.returned,

@@ -7,73 +7,45 @@ ghost use Rattle.choosing.specs.Promises.{Chooses, Common, Needed};
 
 use shape::{MOST_LAYERS, Refusal, Shape, batch, shape_bad, within};
 
-// What the choice answers: L, or why it turned back.
-#[derive(Clone, Copy)]
-pub enum Chosen {
-    Layers(usize),
-    Refused(Refusal),
-}
-
 // The least common multiple of l and s: the first multiple of l that is one of s.
 fn common(l: usize, s: usize) -> usize
     requires { (0 < l) × (l < 2 ^ 32) × (0 < s) × (s < 2 ^ 32) }
     ensures { Common l s result }
 {
-    let mut j = 1;
-    while (l * j) % s != 0 {
-        j += 1;
+    for j in 1..s {
+        if (l * j) % s == 0 {
+            return l * j;
+        }
     }
-    l * j
+    l * s
 }
 
-// What one pass over a list of losses finds: whether one is outside its range, and otherwise the number whose multiples are the layers that
-// serve them all.
-#[derive(Clone, Copy)]
-struct Needs {
-    outside: bool,
-    least: usize,
-}
-
-// The losses in turn, to the first that is not 1 to `most`. Layers serve a loss where they are a multiple of the layers of its batch, so
-// `least` is the least common multiple of these.
-fn needs_of(most: usize, losses: &[usize]) -> Needs
+// The losses in turn, to the first that is not 1 to `most`. Layers serve a loss where they are a multiple of the layers of its batch, so the
+// least common multiple of these is the number whose multiples serve them all.
+fn needs_of(most: usize, losses: &[usize]) -> Result<usize, Refusal>
     requires { most < most_nodes }
     ensures { Needed most losses.now result }
 {
     let mut least = 1;
-    let mut i = 0;
-    while i < losses.len() {
-        let h = losses[i];
+    for &h in losses {
         if !within(1, most, h) {
-            return Needs {
-                outside: true,
-                least,
-            };
+            return Err(Refusal::BadNodes);
         }
         least = common(least, batch(h));
-        i += 1;
     }
-    Needs {
-        outside: false,
-        least,
-    }
+    Ok(least)
 }
 
 // The smallest L from 1 to 15 that serves each loss; judged 1, 2, 11.
-pub fn layers(n: usize, k: usize, losses: &[usize]) -> Chosen
+pub fn layers(n: usize, k: usize, losses: &[usize]) -> Result<usize, Refusal>
     ensures { Chooses n k losses.now result }
 {
     if shape_bad(Shape { n, k, layers: 1 }) {
-        return Chosen::Refused(Refusal::BadShape);
+        return Err(Refusal::BadShape);
     }
-    let needed = needs_of(n - k - 1, losses);
-    let outside = needed.outside;
-    let over = MOST_LAYERS < needed.least;
-    if outside {
-        return Chosen::Refused(Refusal::BadNodes);
+    let least = needs_of(n - k - 1, losses)?;
+    if MOST_LAYERS < least {
+        return Err(Refusal::NoLayers);
     }
-    if over {
-        return Chosen::Refused(Refusal::NoLayers);
-    }
-    Chosen::Layers(needed.least)
+    Ok(least)
 }

@@ -13,9 +13,11 @@ use Rattle.lists.proofs.Tables.{range_length, range_at, range_more}
 use Rattle.lists.proofs.Picked.{picked_none, picked_yes, picked_no}
 use Rattle.shape.specs.declared.Shape.{Shape}
 use Rattle.classes.specs.Classes.{batch, top, class_by, class_of, rank_class, Sum, spot, spot_at, in_class, members, sum_at}
-use Rattle.classes.specs.Layout.{Fronted}
+use Rattle.classes.specs.declared.Layout.{Layout}
+use Rattle.classes.specs.Layout.{Ready, Fronted}
 use Rattle.classes.proofs.Dead.{Dead}
 use Rattle.classes.proofs.Counts.{members_size}
+use Rattle.classes.proofs.Layouts.{ready_dead}
 use Rattle.classes.proofs.Sums.{member_found, member_at, sum_at_is}
 use Rattle.classes.proofs.Messages.{spot_number}
 
@@ -87,6 +89,10 @@ module _ (dead : List ℕ) (c : ℕ) where
 -- all classes have as many members
 pub class_size : {s : Shape} {dead : List ℕ} → Dead s dead → (c : ℕ) → c ≤ top dead → 2 ^ s.n / (top dead + 1) ≡ length (members dead c (2 ^ s.n))
 class_size {s} {dead} D c h = div-eq_of_eq-mul_left (omega arith) (sym (members_size D c h))
+
+-- and a layout has that number
+pub class_members : {dead : List ℕ} {g : Layout} → Ready dead g → (c : ℕ) → c ≤ top dead → g.members ≡ length (members dead c (2 ^ g.shape.n))
+class_members R c h = R.members_is ∙ class_size (ready_dead R) c h
 
 -- sum x of batch b of rank u is at the x-th a of its class
 module _ (s : Shape) (dead : List ℕ) (u b x : ℕ) (h : b < s.layers / batch dead) (l : x < length (members dead (rank_class dead u) (2 ^ s.n))) where

@@ -14,10 +14,10 @@ ghost use Rattle.lists.specs.Lists.{member, position, rising};
 use shape::{MOST_NODES, Shape, batch, two_to};
 
 // The most members of a class, those of a layer.
-pub const MEMBERS: usize = 1 << MOST_NODES;
+const MEMBERS: usize = 1 << MOST_NODES;
 
 // The places of a small shape's layer: a table of MEMBERS takes as long to clear as its work.
-pub const FEW: usize = 256;
+const FEW: usize = 256;
 
 // What the shape and the dead nodes fix, worked out once for each call.
 #[derive(Clone, Copy)]
@@ -134,13 +134,28 @@ pub fn class_size(g: Layout, dead: &[usize]) -> usize
     g.members
 }
 
+// Runs `work` with a table at least as long as a layer has places. A small shape's is short: it is cleared sooner.
+pub fn with_table<F: FnMut(&mut [u16])>(places: usize, work: &mut F)
+    requires fits { places ≤ 2 ^ most_nodes }
+    requires callable { (table : _) → places ≤ length table.now → F.pre work.old table }
+    ensures { (table : _) × (left : _) × (places ≤ length table.now) × F.step work.old table tt left work.new }
+{
+    if places <= FEW {
+        let mut few = [0u16; FEW];
+        work(&mut few);
+    } else {
+        let mut table = [0u16; MEMBERS];
+        work(&mut table);
+    }
+}
+
 // Every a of a layer, rising, in the front of a table.
 fn list_all(places: usize, out: &mut [u16])
     requires { (places ≤ length out.old) × (places ≤ 2 ^ most_nodes) }
     ensures { (x : ℕ) → x < places → get_or out.new x 0 ≡ x }
 {
-    for a in 0..places {
-        out[a] = a as u16;
+    for (a, x) in out[..places].iter_mut().enumerate() {
+        *x = a as u16;
     }
 }
 
@@ -166,14 +181,7 @@ pub fn rank_of(g: Layout, dead: &[usize], new: usize) -> usize
     requires { (Ready dead.now g) × (member new dead.now ≡ true) }
     ensures { (result < length dead.now) × (result ≡ position new dead.now) }
 {
-    let mut u = 0;
-    while u < dead.len() {
-        if new == dead[u] {
-            return u;
-        }
-        u += 1;
-    }
-    0
+    dead.iter().position(|&node| new == node).unwrap_or(0)
 }
 
 // Where rank v stands among the ranks but u.

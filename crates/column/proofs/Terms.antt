@@ -2,7 +2,7 @@
 use mathlib.Core.Path.{◌≡◌, sym, ap, ◌∙◌}
 use mathlib.Core.List.{List, ◌++◌}
 use Prim.Native.Nat.{ℕ, ◌+◌, ◌*◌, ◌%◌, ◌^◌, ◌≤◌, ◌<◌}
-use native.Mathlib.Nat.{pow-zero, pow-suc, mod-mod}
+use native.Mathlib.Nat.{pow-suc, mod-mod}
 use native.Mathlib.Numerals.{add-one}
 use native.Mathlib.Omega.{arith}
 use lib.ListN.{length, get_or, take, drop, length-append, length-drop}
@@ -18,9 +18,6 @@ turned : (a b c : ℕ) → a * b * c ≡ a * c * b
 turned a b c = omega arith
 
 module _ (q : ℕ) (points column : List ℕ) where
-  pub terms_first : (i x : ℕ) → x ≡ element column i → x % q ≡ (element points i ^ 0 * element column i) % q
-  terms_first i x e = ap (λ z. z % q) (e ∙ sym (ap (λ p. p * element column i) (pow-zero (element points i)) ∙ omega arith))
-
   pub terms_more : (t i x y : ℕ) → x % q ≡ (element points i ^ t * element column i) % q → y ≡ (x * element points i) % q
       → y % q ≡ (element points i ^ (t + 1) * element column i) % q
   terms_more t i x y e d =

@@ -44,8 +44,8 @@ fn progression(base: u32, step: u32, points: &mut [u32])
     requires { (base < 65537) × (step ≤ 18) × (length points.old ≤ most_entries) }
     ensures { points.new ≡ tabulate (length points.old) (stepped base step) }
 {
-    for i in 0..points.len() {
-        points[i] = base + (i as u32) * step;
+    for (i, point) in points.iter_mut().enumerate() {
+        *point = base + (i as u32) * step;
     }
 }
 
@@ -70,9 +70,9 @@ fn draw(q: u32, start: u64, values: &mut [u32])
     ensures { length values.new ≡ length values.old }
 {
     let mut seed = start;
-    for j in 0..values.len() {
+    for value in values.iter_mut() {
         seed = next(seed);
-        values[j] = field::add(q, (seed / 16) as u32, 0);
+        *value = field::add(q, (seed / 16) as u32, 0);
     }
 }
 
@@ -82,8 +82,8 @@ fn digested(start: u64, column: &[u32]) -> u64
     ensures { result < 4294967291 }
 {
     let mut digest = start;
-    for i in 0..column.len() {
-        digest = (digest * 65599 + (column[i] as u64) + 1) % 4294967291;
+    for &x in column {
+        digest = (digest * 65599 + u64::from(x) + 1) % 4294967291;
     }
     digest
 }

@@ -1,5 +1,5 @@
 -- What it tells that storing would change nothing: a row that is there already, one element more.
-use mathlib.Core.Path.{◌≡◌, refl, sym}
+use mathlib.Core.Path.{◌≡◌, refl, sym, ◌∙◌}
 use mathlib.Core.Bool.{Bool, true, ◌&&◌}
 use mathlib.Core.List.{List}
 use Prim.Native.Nat.{ℕ, ◌+◌, ◌<◌}
@@ -12,9 +12,9 @@ use Rattle.lists.proofs.Tests.{both}
 use Rattle.rows.specs.Rows.{Stored}
 
 -- one element more is there already
-pub same_more : (at i : ℕ) (f : ℕ → ℕ) (xs : List ℕ) (same : Bool) → (same ≡ true → Stored at i f xs xs) → same && eqb (f i) (get_or xs (at + i) 0) ≡ true
+pub same_more : (at i : ℕ) (f : ℕ → ℕ) (xs : List ℕ) (same : Bool) {v x : ℕ} → (same ≡ true → Stored at i f xs xs) → v ≡ f i → x ≡ get_or xs (at + i) 0 → same && eqb v x ≡ true
     → Stored at (i + 1) f xs xs
-same_more at i f xs same so_far e = record {
+same_more at i f xs same {v} {x} so_far sum symbol e = record {
   long = refl;
   there = λ j h. go j h (ℕ_discrete j i);
   ahead = λ j h. refl;
@@ -22,5 +22,5 @@ same_more at i f xs same so_far e = record {
 }
   where
     go : (j : ℕ) → j < i + 1 → Dec (j ≡ i) → get_or xs (at + j) 0 ≡ f j
-    go j h (yes d) = rw d (sym (eqb-true (f i) (get_or xs (at + i) 0) (both same (eqb (f i) (get_or xs (at + i) 0)) e).1))
-    go j h (no d) = (so_far (both same (eqb (f i) (get_or xs (at + i) 0)) e).0).there j (omega arith)
+    go j h (yes d) = rw d (sym (sym sum ∙ eqb-true v x (both same (eqb v x) e).1 ∙ symbol))
+    go j h (no d) = (so_far (both same (eqb v x) e).0).there j (omega arith)

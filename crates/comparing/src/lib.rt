@@ -1,14 +1,16 @@
 // Whether the nodes that are not listed hold what would be filled in from those that are, a run of places at a time: as in filling, and
 // nothing is written.
+// The functions stay beside their twins of filling: those write the nodes that they read, these stop at the first row that differs, and a
+// trait over both, with a result for each, is no shorter.
 #![tactic(auto)]
 
-ghost use Rattle.std.specs.Prelude.{◌≡◌, true, false, ◌+◌, ◌^◌, ◌<◌, ◌≤◌, length};
+ghost use Rattle.std.specs.Prelude.{◌≡◌, true, false, ◌+◌, ◌^◌, ◌<◌, ◌≤◌, length, IfSome};
 ghost use Rattle.shape.specs.Shape.{size};
 ghost use Rattle.shape.specs.Refusals.{shape_bad};
 ghost use Rattle.code.specs.Code.{narrow};
 ghost use Rattle.rows.specs.Rows.{most_places, Low, Stored, remainder};
 ghost use Rattle.tables.specs.Tables.{table_size, Marks};
-ghost use Rattle.patterns.specs.Patterns.{patterns, Represented};
+ghost use Rattle.patterns.specs.Patterns.{Represented};
 ghost use Rattle.filling.specs.Filling.{Fillable, FilledRun, Filled, InLayers};
 ghost use Rattle.comparing.specs.Comparing.{HeldTo};
 
@@ -25,8 +27,8 @@ fn same_row(q: u32, run: usize, sums: [u32; RUN], at: usize, symbols: &[u16]) ->
     ensures { result ≡ true → Stored at run (remainder q sums) symbols.now symbols.now }
 {
     let mut same = true;
-    for i in 0..run {
-        same = same & (sums[i] % q == symbols[at + i] as u32);
+    for (&sum, &symbol) in sums[..run].iter().zip(&symbols[at..at + run]) {
+        same &= sum % q == u32::from(symbol);
     }
     same
 }
@@ -64,18 +66,17 @@ fn layers_met(
     run: usize,
     list: &[usize],
     marked: [bool; FLAGS],
-    few: bool,
-    source: &[u16],
+    source: Option<&[u16]>,
     table: &mut [u16],
     nodes: &[u16],
 ) -> bool
-    requires { (shape_bad s ≡ false) × Fillable s.n (size s) list.now nodes.now × Marks s.n list.now marked × (few ≡ true → Represented s.n marked list.now s.n source.now) × (run ≤ most_places) × (a + run ≤ 2 ^ s.n) × (length table.old ≡ table_size) × Low narrow.modulus table.old }
+    requires { (shape_bad s ≡ false) × Fillable s.n (size s) list.now nodes.now × Marks s.n list.now marked × IfSome source (λ few. Represented s.n marked list.now s.n few.now) × (run ≤ most_places) × (a + run ≤ 2 ^ s.n) × (length table.old ≡ table_size) × Low narrow.modulus table.old }
     ensures { (length table.new ≡ table_size) × Low narrow.modulus table.new × (result ≡ true → Filled s.n (size s) list.now (InLayers (2 ^ s.n) a run s.layers) nodes.now nodes.now) }
 {
     let n = s.n;
     let layers = s.layers;
     let two = two_to(n);
-    run_multipliers(n, n, a, run, list, marked, few, source, table);
+    run_multipliers(n, n, a, run, list, marked, source, table);
     for layer in 0..layers {
         if !run_met(
             n,
@@ -98,11 +99,10 @@ fn runs_met(
     s: Shape,
     list: &[usize],
     marked: [bool; FLAGS],
-    few: bool,
-    source: &[u16],
+    source: Option<&[u16]>,
     nodes: &[u16],
 ) -> usize
-    requires { (shape_bad s ≡ false) × Fillable s.n (size s) list.now nodes.now × Marks s.n list.now marked × (few ≡ true → Represented s.n marked list.now s.n source.now) }
+    requires { (shape_bad s ≡ false) × Fillable s.n (size s) list.now nodes.now × Marks s.n list.now marked × IfSome source (λ few. Represented s.n marked list.now s.n few.now) }
     ensures { HeldTo s list.now nodes.now result }
 {
     let n = s.n;
@@ -110,32 +110,11 @@ fn runs_met(
     let run = run_of(n);
     let mut table = [0u16; TABLE];
     for block in 0..two / run {
-        if !layers_met(
-            s,
-            block * run,
-            run,
-            list,
-            marked,
-            few,
-            source,
-            &mut table,
-            nodes,
-        ) {
+        if !layers_met(s, block * run, run, list, marked, source, &mut table, nodes) {
             return block * run;
         }
     }
     two
-}
-
-// Likewise, with few multipliers worked out first, to pick from.
-fn met_from_few(s: Shape, list: &[usize], marked: [bool; FLAGS], nodes: &[u16]) -> usize
-    requires { (shape_bad s ≡ false) × Fillable s.n (size s) list.now nodes.now × Marks s.n list.now marked × (patterns marked s.n ≤ most_places) }
-    ensures { HeldTo s list.now nodes.now result }
-{
-    let n = s.n;
-    let mut source = [0u16; TABLE];
-    represent(n, n, list, marked, &mut source);
-    runs_met(s, list, marked, true, &source, nodes)
 }
 
 // How many a, a run after the other, have at every layer what would be filled in, by multipliers picked from few where that pays.
@@ -145,9 +124,10 @@ pub fn listed_met(s: Shape, list: &[usize], nodes: &[u16]) -> usize
 {
     let n = s.n;
     let marked = marks(n, list);
-    if pays(n, marked) {
-        return met_from_few(s, list, marked, nodes);
+    if !pays(n, marked) {
+        return runs_met(s, list, marked, None, nodes);
     }
-    let none = [0u16; 1];
-    runs_met(s, list, marked, false, &none, nodes)
+    let mut few = [0u16; TABLE];
+    represent(n, n, list, marked, &mut few);
+    runs_met(s, list, marked, Some(&few), nodes)
 }

@@ -37,8 +37,8 @@ fn gathered(points: &[u32], list: &[usize]) -> [u32; ENTRIES]
     ensures { (length result ≡ most_entries) × ((j : ℕ) → j < length list.now → element result j ≡ element points.now (element list.now j)) }
 {
     let mut out = [0u32; ENTRIES];
-    for j in 0..list.len() {
-        out[j] = points[list[j]];
+    for (j, &entry) in list.iter().enumerate() {
+        out[j] = points[entry];
     }
     out
 }
@@ -50,8 +50,8 @@ pub fn powers(q: u32, r: usize, x: u32) -> [u32; ENTRIES]
 {
     let mut out = [0u32; ENTRIES];
     let mut p = 1;
-    for t in 0..r {
-        out[t] = p;
+    for power in out[..r].iter_mut() {
+        *power = p;
         p = multiply(q, p, x);
     }
     out
@@ -63,8 +63,8 @@ pub fn vandermonde(q: u32, r: usize, points: [u32; ENTRIES]) -> [[u32; ENTRIES];
     ensures { (j t : ℕ) → j < r → t < r → cell result j t ≡ power_of q (element points j) t }
 {
     let mut out = [[0u32; ENTRIES]; ENTRIES];
-    for j in 0..r {
-        out[j] = powers(q, r, points[j]);
+    for (j, row) in out[..r].iter_mut().enumerate() {
+        *row = powers(q, r, points[j]);
     }
     out
 }
@@ -74,12 +74,11 @@ fn right_side(q: u32, r: usize, points: &[u32], values: &[u32]) -> [u32; ENTRIES
     requires { (1 < q) × (r ≤ most_entries) × (length points.now ≤ most_entries) × (length values.now ≡ length points.now) }
     ensures { (t : ℕ) → t < r → element result t ≡ minus q 0 (parity q points.now values.now t) }
 {
-    let mut out = [0u32; ENTRIES];
-    let sums = parity(q, r, points, values);
-    for t in 0..r {
-        out[t] = subtract(q, 0, sums[t]);
+    let mut sums = parity(q, r, points, values);
+    for sum in sums[..r].iter_mut() {
+        *sum = subtract(q, 0, *sum);
     }
-    out
+    sums
 }
 
 // Each value stored at its listed entry.
@@ -87,8 +86,8 @@ pub fn scatter(list: &[usize], values: &[u32], column: &mut [u32])
     requires { (length values.now ≡ length list.now) × (rising 0 (length column.old) list.now ≡ true) }
     ensures { Scattered list.now values.now column.old column.new }
 {
-    for j in 0..list.len() {
-        column[list[j]] = values[j];
+    for (&entry, &value) in list.iter().zip(values.iter()) {
+        column[entry] = value;
     }
 }
 

@@ -11,10 +11,9 @@ use lib.ListN.{length, get_or}
 use Rattle.lists.proofs.Tests.{neither}
 use Rattle.lists.proofs.Places.{Place, place_of}
 use Rattle.shape.specs.declared.Shape.{Shape}
-use Rattle.shape.specs.declared.Answer.{Answer}
-use Rattle.shape.specs.declared.Answer.TheVariants.{Done}
+use Rattle.std.specs.Prelude.{Ok}
 use Rattle.shape.specs.Shape.{size, byte_values}
-use Rattle.shape.specs.Refusals.{shape_bad, wrong_length, symbol_bad, answer_number, afterwards}
+use Rattle.shape.specs.Refusals.{shape_bad, wrong_length, symbol_bad, answer_number, afterwards, Answer}
 use Rattle.shape.proofs.Accepted.{shape_accepted, passed}
 use Rattle.shape.proofs.Answers.{afterwards_done}
 use Rattle.code.specs.Code.{Code, GoodCode, narrow}
@@ -112,19 +111,19 @@ correct_written c s bytes b z good wide low e =
 
 module _ (s : Shape) (len b : ℕ) (z : ℤ) (before after : List ℕ) (answer : Answer) (number : answer_number answer ≡ correct_refusal narrow s before len b z)
     (nodes : after ≡ afterwards (correct_refusal narrow s before len b z) before (corrected narrow s before b z)) where
-  done : answer ≡ Done → correct_refusal narrow s before len b z ≡ 0
+  done : answer ≡ Ok tt → correct_refusal narrow s before len b z ≡ 0
   done d = sym number ∙ ap answer_number d
 
-  left : answer ≡ Done → after ≡ corrected narrow s before b z
+  left : answer ≡ Ok tt → after ≡ corrected narrow s before b z
   left d = nodes ∙ afterwards_done before (corrected narrow s before b z) _ (done d)
 
-  good : answer ≡ Done → GoodCode narrow s.n
+  good : answer ≡ Ok tt → GoodCode narrow s.n
   good d = narrow_accepted s (correct_accepted narrow s before len b z (done d)).known.shape
 
-  place_low : answer ≡ Done → b % size s < size s
+  place_low : answer ≡ Ok tt → b % size s < size s
   place_low d = (spot narrow s (good d) (omega arith) before len b z (done d)).place
 
-  afresh : answer ≡ Done → (bytes : List ℕ) → length bytes ≡ len → ((e : ℕ) → e < len → get_or bytes e 0 < byte_values)
+  afresh : answer ≡ Ok tt → (bytes : List ℕ) → length bytes ≡ len → ((e : ℕ) → e < len → get_or bytes e 0 < byte_values)
       → before ≡ written narrow s bytes → after ≡ written narrow s (amended bytes b z)
   afresh d bytes l low is =
       left d ∙ ap (λ u. corrected narrow s u b z) is

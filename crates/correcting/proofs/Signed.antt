@@ -8,6 +8,7 @@ use borrow.Author.Tests.{ltb-true, ltb-false, lt-ltb, le-ltb, not-false}
 use lib.Dec.{ltb}
 use lib.IntN.{ℤ, pos, negsuc, ◌+ℤ◌, nat_abs, pos-ne-negsuc}
 use lib.Signed.{lt_z, mag}
+use Rattle.std.proofs.Common.{is_le, Less, Equal, Greater}
 use Rattle.lists.proofs.Tests.{both}
 use Rattle.field.specs.Residues.{minus}
 use Rattle.shape.specs.Shape.{byte_values}
@@ -15,20 +16,26 @@ use Rattle.correcting.specs.Signed.{to_residue, is_change, is_byte, change_bad, 
 
 -- ---- the tests, as a machine makes them
 
-pub below_range : (x : ℕ) (z : ℤ) → lt_z z (negsuc 254) ≡ true → change_bad x z ≡ true
-unfolding change_bad is_change
-below_range x (pos n) e = absurd (false≢true e)
-below_range x (negsuc n) e = ap (λ b. not (b && is_byte (pos x +ℤ negsuc n))) (le-ltb (suc n) 256 (omega (arith, ltb-true 254 n e)))
-
-pub above_range : (x : ℕ) (z : ℤ) → lt_z (pos 255) z ≡ true → change_bad x z ≡ true
-unfolding change_bad is_change
-above_range x (pos n) e = ap (λ b. not (b && is_byte (pos x +ℤ pos n))) (le-ltb n 256 (omega (arith, ltb-true 255 n e)))
-above_range x (negsuc n) e = absurd (false≢true e)
-
-pub in_range : (z : ℤ) → lt_z z (negsuc 254) ≡ false → lt_z (pos 255) z ≡ false → is_change z ≡ true
+-- the test of the range, as the comparisons of its two ends
+pub range_tested : (z : ℤ)
+    → (is_le (cond (lt_z (negsuc 254) z) Less (cond (lt_z z (negsuc 254)) Greater Equal)) && is_le (cond (lt_z z (pos 255)) Less (cond (lt_z (pos 255) z) Greater Equal))) ≡ is_change z
 unfolding is_change
-in_range (pos n) e g = lt-ltb n 256 (omega (arith, ltb-false 255 n g))
-in_range (negsuc n) e g = lt-ltb (suc n) 256 (omega (arith, ltb-false 254 n e))
+range_tested (pos n) = go (ltb n 255) (ltb 255 n) refl refl
+  where
+    go : (p q : Bool) → ltb n 255 ≡ p → ltb 255 n ≡ q → is_le (cond p Less (cond q Greater Equal)) ≡ ltb n 256
+    go true q e f = sym (lt-ltb n 256 (omega (arith, ltb-true n 255 e)))
+    go false true e f = sym (le-ltb n 256 (omega (arith, ltb-true 255 n f)))
+    go false false e f = sym (lt-ltb n 256 (omega (arith, ltb-false n 255 e, ltb-false 255 n f)))
+range_tested (negsuc n) = go (ltb n 254) (ltb 254 n) refl refl
+  where
+    go : (p q : Bool) → ltb n 254 ≡ p → ltb 254 n ≡ q → (is_le (cond p Less (cond q Greater Equal)) && true) ≡ ltb (suc n) 256
+    go true q e f = sym (lt-ltb (suc n) 256 (omega (arith, ltb-true n 254 e)))
+    go false true e f = sym (le-ltb (suc n) 256 (omega (arith, ltb-true 254 n f)))
+    go false false e f = sym (lt-ltb (suc n) 256 (omega (arith, ltb-false n 254 e, ltb-false 254 n f)))
+
+pub out_of_range : (x : ℕ) (z : ℤ) → is_change z ≡ false → change_bad x z ≡ true
+unfolding change_bad
+out_of_range x z e = ap (λ b. not (b && is_byte (pos x +ℤ z))) e
 
 byte_tested : (y : ℤ) → (lt_z y (pos 0) || lt_z (pos 255) y) ≡ not (is_byte y)
 unfolding is_byte

@@ -15,16 +15,13 @@ ghost use Rattle.correcting.specs.Promises.{Corrects};
 use code::{node_numbers, points_at};
 use completion::complete;
 use field::add;
-use shape::{Answer, MODULUS, MOST_NODES, Refusal, Shape, shape_bad, size, two_to};
+use shape::{MODULUS, MOST_NODES, Refusal, Shape, shape_bad, size, two_to};
 
 // Cause 12. The range comes first: the sum of a symbol and a change within it fits.
 fn change_bad(symbol: u16, change: i64) -> bool
     ensures { result ≡ change_bad symbol change }
 {
-    if change < -255 {
-        return true;
-    }
-    if 255 < change {
+    if !(-255..=255).contains(&change) {
         return true;
     }
     let sum = symbol as i64 + change;
@@ -45,6 +42,7 @@ fn column_bad(n: usize, each: usize, place: usize, nodes: &[u16]) -> bool
     ensures { result ≡ symbol_bad narrow.modulus (tabulate n (λ i. get_or nodes.now (i * each + place) 0)) }
 {
     let mut bad = false;
+    // A column, one symbol of each node: `skip(place).step_by(each)` would be no plainer.
     for i in 0..n {
         bad = bad | (MODULUS <= nodes[i * each + place] as u32);
     }
@@ -52,30 +50,36 @@ fn column_bad(n: usize, each: usize, place: usize, nodes: &[u16]) -> bool
 }
 
 // Causes 1, 4, 9, 5 and 12, in this order.
-fn judge_correct(s: Shape, nodes: &[u16], length: usize, byte: usize, change: i64) -> Answer
+fn judge_correct(
+    s: Shape,
+    nodes: &[u16],
+    length: usize,
+    byte: usize,
+    change: i64,
+) -> Result<(), Refusal>
     ensures { answer_number result ≡ correct_refusal narrow s nodes.now length byte change }
 {
     if shape_bad(s) {
-        return Answer::Refused(Refusal::BadShape);
+        return Err(Refusal::BadShape);
     }
     let n = s.n;
     let k = s.k;
     let each = size(s);
     if (nodes.len() != n * each) | (k * each < length) {
-        return Answer::Refused(Refusal::WrongLength);
+        return Err(Refusal::WrongLength);
     }
     if length <= byte {
-        return Answer::Refused(Refusal::PastEnd);
+        return Err(Refusal::PastEnd);
     }
     let high = column_bad(n, each, byte % each, nodes);
     let unfit = change_bad(nodes[byte], change);
     if high {
-        return Answer::Refused(Refusal::BadSymbol);
+        return Err(Refusal::BadSymbol);
     }
     if unfit {
-        return Answer::Refused(Refusal::BadChange);
+        return Err(Refusal::BadChange);
     }
-    Answer::Done
+    Ok(())
 }
 
 // One number at an entry, and 0 at the others.
@@ -123,23 +127,27 @@ fn change_checks(s: Shape, place: usize, by: [u32; MOST_NODES], nodes: &mut [u16
 }
 
 // The byte's own symbol, and one of each check node.
-fn correct_all(s: Shape, byte: usize, change: i64, nodes: &mut [u16]) -> Answer
+fn correct_all(s: Shape, byte: usize, change: i64, nodes: &mut [u16])
     requires { Correctable narrow s nodes.old byte change }
-    ensures { (result ≡ Answer.Done) × (nodes.new ≡ corrected narrow s nodes.old byte change) }
+    ensures { nodes.new ≡ corrected narrow s nodes.old byte change }
 {
     let each = size(s);
     let by = changes(s, byte / each, byte % each, residue(change));
     add_to(byte, by[byte / each], nodes);
     change_checks(s, byte % each, by, nodes);
-    Answer::Done
 }
 
 // Corrects byte number `byte` of a transcript of `length` bytes by a change.
-pub fn correct(s: Shape, nodes: &mut [u16], length: usize, byte: usize, change: i64) -> Answer
+pub fn correct(
+    s: Shape,
+    nodes: &mut [u16],
+    length: usize,
+    byte: usize,
+    change: i64,
+) -> Result<(), Refusal>
     ensures { Corrects s length byte change nodes.old nodes.new result }
 {
-    match judge_correct(s, nodes, length, byte, change) {
-        Answer::Refused(cause) => Answer::Refused(cause),
-        Answer::Done => correct_all(s, byte, change, nodes),
-    }
+    judge_correct(s, nodes, length, byte, change)?;
+    correct_all(s, byte, change, nodes);
+    Ok(())
 }

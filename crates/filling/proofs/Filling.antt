@@ -3,13 +3,13 @@ use mathlib.Core.Path.{◌≡◌, refl, sym, ap, ap₂, ◌∙◌}
 use mathlib.Core.Logic.{◌≢◌, ◌⊎◌, inl, inr}
 use mathlib.Core.Bool.{true, false, true≢false}
 use mathlib.Core.List.{List}
-use Prim.Native.Nat.{ℕ, ◌+◌, ◌-◌, ◌*◌, ◌/◌, ◌%◌, ◌^◌, ◌<◌, ◌≤◌}
-use native.Mathlib.Nat.{mul-le-mul_right, mod-lt}
+use Prim.Native.Nat.{ℕ, ◌+◌, ◌-◌, ◌*◌, ◌/◌, ◌%◌, ◌^◌, ◌<◌, ◌≤◌, min}
+use native.Mathlib.Nat.{mul-le-mul_right, mod-lt, div_self}
 use native.Mathlib.Decide.{ℕ_discrete}
 use native.Mathlib.Omega.{arith}
 use lib.Arith.{digits_mod}
 use lib.ListN.{length, get_or}
-use lib.Pow.{pow_mono, pow-add}
+use lib.Pow.{pow_mono, pow_pos, pow-add}
 use Rattle.lists.specs.Lists.{member, rising}
 use Rattle.lists.proofs.Tests.{below_or_not}
 use Rattle.lists.proofs.Members.{member_of, rising_below}
@@ -17,7 +17,10 @@ use Rattle.lists.proofs.Others.{rising_fits}
 use Rattle.lists.proofs.Sums.{sum_ext}
 use Rattle.column.specs.Column.{completed}
 use Rattle.column.proofs.Column.{completed_ext}
-use Rattle.shape.specs.Shape.{most_nodes}
+use Rattle.shape.specs.declared.Shape.{Shape}
+use Rattle.shape.specs.Shape.{most_nodes, size}
+use Rattle.shape.specs.Refusals.{shape_bad}
+use Rattle.shape.proofs.Accepted.{shape_accepted, most_size}
 use Rattle.code.specs.Code.{narrow, points, GoodCode}
 use Rattle.code.proofs.NodePoints.{good_fewer, points_length, points_good}
 use Rattle.code.proofs.Narrow.{narrow_good}
@@ -37,9 +40,6 @@ apart each i k p place run d h l = go (below_or_not k i)
     go (inr g) = inr (omega (arith, mul-le-mul_right each (let z : i + 1 ≤ k = omega (arith, d) in z)))
 
 module _ (n each place run : ℕ) (list table before : List ℕ) (given : Fillable n each list before) (fits : place + run ≤ each) where
-  pub filled_run_none : FilledRun n each place run list table 0 before before
-  filled_run_none = record { long = refl; there = λ a w i t h. absurd (omega arith); kept = λ i p h l. refl; others = λ i p h l. refl }
-
   module _ (m : ℕ) (now : List ℕ) (so_far : FilledRun n each place run list table m before now) where
     -- a listed node is kept
     pub filled_run_skip : member m list ≡ true → FilledRun n each place run list table (m + 1) before now
@@ -130,6 +130,13 @@ row_room n each i place run h l = omega (arith, mul-le-mul_right each (let z : i
 
 -- ---- all layers and all a
 
+-- a layer's places lie within a node, and a node has few
+pub layer_room : (s : Shape) (a run layer two : ℕ) → shape_bad s ≡ false → a + run ≤ 2 ^ s.n → layer < s.layers → two ≡ 2 ^ s.n
+    → (layer * two + a + run ≤ s.layers * two) × (s.layers * two ≤ most_size)
+unfolding size
+layer_room s a run layer two good fits within e =
+    (omega (arith, e, fits, mul-le-mul_right two (let z : layer + 1 ≤ s.layers = omega arith in z)), rw e (shape_accepted s good).size_high)
+
 module _ (n each : ℕ) (list before : List ℕ) where
   pub filled_none : (Done : ℕ → Type 0) → ((p : ℕ) → p < each → Done p → ⊥) → Filled n each list Done before before
   filled_none Done never = record { long = refl; there = λ i p h u l d. absurd (never p l d); kept = λ i p e h. refl; others = λ i p h d. refl }
@@ -192,9 +199,6 @@ run_filled n each layer a run list table before after h w v = record {
         go (inr l) (inl g) = absurd (d (l, g))
 
 module _ (n layers a run : ℕ) (list : List ℕ) (up : rising 0 n list ≡ true) (h : a + run ≤ 2 ^ n) (pos : 0 < 2 ^ n) where
-  pub layers_none : (each : ℕ) (before : List ℕ) → Filled n each list (InLayers (2 ^ n) a run 0) before before
-  layers_none each before = filled_none n each list before _ (λ p l d. absurd (omega (arith, d.2)))
-
   pub layers_more : (each layer : ℕ) (before now after : List ℕ) → Filled n each list (InLayers (2 ^ n) a run layer) before now
       → Filled n each list (InRun (layer * 2 ^ n + a) run) now after → Filled n each list (InLayers (2 ^ n) a run (layer + 1)) before after
   layers_more each layer before now after w v =
@@ -225,7 +229,7 @@ still_fillable n each list before now Done w v = record {
 }
 
 -- a layer's places are whole runs of 64, unless they are fewer
-pub whole_runs : (n : ℕ) → 64 ≤ 2 ^ n → 2 ^ n / 64 * 64 ≡ 2 ^ n
+whole_runs : (n : ℕ) → 64 ≤ 2 ^ n → 2 ^ n / 64 * 64 ≡ 2 ^ n
 whole_runs n h = go (below_or_not n 6)
   where
     go : (n < 6) ⊎ (6 ≤ n) → 2 ^ n / 64 * 64 ≡ 2 ^ n
@@ -233,6 +237,24 @@ whole_runs n h = go (below_or_not n 6)
     go (inr l) =
         let e : 2 ^ n ≡ 2 ^ (n - 6) * 64 = ap (λ k. 2 ^ k) (let z : n ≡ n - 6 + 6 = omega arith in z) ∙ pow-add 2 (n - 6) 6 in
         omega (arith, e)
+
+-- the places of a run
+pub runs_of : (n r : ℕ) → r ≡ min (2 ^ n) 64 → (0 < r) × (r ≤ most_places) × (2 ^ n / r * r ≡ 2 ^ n)
+runs_of n r e = go (below_or_not (2 ^ n) 64)
+  where
+    two : ℕ
+    two = 2 ^ n
+
+    pos : 0 < two
+    pos = pow_pos n
+
+    go : (2 ^ n < 64) ⊎ (64 ≤ 2 ^ n) → (0 < r) × (r ≤ most_places) × (2 ^ n / r * r ≡ 2 ^ n)
+    go (inl l) =
+        let z : r ≡ two = omega (arith, e) in
+        (omega (arith, pos, z), omega (arith, e), rw z (ap (λ k. k * two) (div_self pos) ∙ omega arith))
+    go (inr l) =
+        let z : r ≡ 64 = omega (arith, e) in
+        (omega (arith, z), omega (arith, z), rw z (whole_runs n l))
 
 -- a run of places lies within a layer
 pub block_room : (two run n block : ℕ) → two ≡ 2 ^ n → 2 ^ n / run * run ≡ 2 ^ n → block < two / run → block * run + run ≤ 2 ^ n

@@ -2,13 +2,13 @@
 // symbols at its place, each times a multiplier that serves all layers.
 #![tactic(auto)]
 
-ghost use Rattle.std.specs.Prelude.{◌≡◌, true, false, ◌+◌, ◌*◌, ◌/◌, ◌^◌, ◌<◌, ◌≤◌, length};
+ghost use Rattle.std.specs.Prelude.{◌≡◌, false, ◌+◌, ◌*◌, ◌/◌, ◌^◌, ◌<◌, ◌≤◌, length, IfSome};
 ghost use Rattle.shape.specs.Shape.{most_nodes, size};
 ghost use Rattle.shape.specs.Refusals.{shape_bad};
 ghost use Rattle.code.specs.Code.{narrow};
 ghost use Rattle.rows.specs.Rows.{most_places, Low};
 ghost use Rattle.tables.specs.Tables.{table_size, Marks};
-ghost use Rattle.patterns.specs.Patterns.{patterns, Represented};
+ghost use Rattle.patterns.specs.Patterns.{Represented};
 ghost use Rattle.filling.specs.Filling.{Summable, Summed, Fillable, FilledRun, Filled, InLayers, Everywhere};
 
 use patterns::{pays, represent};
@@ -31,13 +31,13 @@ pub fn sum_row(
     ensures { Summed run each place rows.now table.now first symbols.now (length rows.now) result }
 {
     let mut sums = [0u32; RUN];
-    for j in 0..rows.len() {
+    for (j, &row) in rows.iter().enumerate() {
         add_products(
             run,
             table,
             (first + j) * RUN,
             symbols,
-            rows[j] * each + place,
+            row * each + place,
             &mut sums,
         );
     }
@@ -74,18 +74,17 @@ fn fill_layers(
     run: usize,
     list: &[usize],
     marked: [bool; FLAGS],
-    few: bool,
-    source: &[u16],
+    source: Option<&[u16]>,
     table: &mut [u16],
     nodes: &mut [u16],
 )
-    requires { (shape_bad s ≡ false) × Fillable s.n (size s) list.now nodes.old × Marks s.n list.now marked × (few ≡ true → Represented s.n marked list.now s.n source.now) × (run ≤ most_places) × (a + run ≤ 2 ^ s.n) × (length table.old ≡ table_size) × Low narrow.modulus table.old }
+    requires { (shape_bad s ≡ false) × Fillable s.n (size s) list.now nodes.old × Marks s.n list.now marked × IfSome source (λ few. Represented s.n marked list.now s.n few.now) × (run ≤ most_places) × (a + run ≤ 2 ^ s.n) × (length table.old ≡ table_size) × Low narrow.modulus table.old }
     ensures { (length table.new ≡ table_size) × Low narrow.modulus table.new × Filled s.n (size s) list.now (InLayers (2 ^ s.n) a run s.layers) nodes.old nodes.new }
 {
     let n = s.n;
     let layers = s.layers;
     let two = two_to(n);
-    run_multipliers(n, n, a, run, list, marked, few, source, table);
+    run_multipliers(n, n, a, run, list, marked, source, table);
     for layer in 0..layers {
         fill_run(
             n,
@@ -105,8 +104,7 @@ pub fn run_of(n: usize) -> usize
     requires { n ≤ most_nodes }
     ensures { (0 < result) × (result ≤ most_places) × (2 ^ n / result * result ≡ 2 ^ n) }
 {
-    let two = two_to(n);
-    if two < RUN { two } else { RUN }
+    two_to(n).min(RUN)
 }
 
 // The nodes that are not listed, a run after the other.
@@ -114,11 +112,10 @@ fn fill_runs(
     s: Shape,
     list: &[usize],
     marked: [bool; FLAGS],
-    few: bool,
-    source: &[u16],
+    source: Option<&[u16]>,
     nodes: &mut [u16],
 )
-    requires { (shape_bad s ≡ false) × Fillable s.n (size s) list.now nodes.old × Marks s.n list.now marked × (few ≡ true → Represented s.n marked list.now s.n source.now) }
+    requires { (shape_bad s ≡ false) × Fillable s.n (size s) list.now nodes.old × Marks s.n list.now marked × IfSome source (λ few. Represented s.n marked list.now s.n few.now) }
     ensures { Filled s.n (size s) list.now Everywhere nodes.old nodes.new }
 {
     let n = s.n;
@@ -126,29 +123,8 @@ fn fill_runs(
     let run = run_of(n);
     let mut table = [0u16; TABLE];
     for block in 0..two / run {
-        fill_layers(
-            s,
-            block * run,
-            run,
-            list,
-            marked,
-            few,
-            source,
-            &mut table,
-            nodes,
-        );
+        fill_layers(s, block * run, run, list, marked, source, &mut table, nodes);
     }
-}
-
-// Likewise, with few multipliers worked out first, to pick from.
-fn fill_from_few(s: Shape, list: &[usize], marked: [bool; FLAGS], nodes: &mut [u16])
-    requires { (shape_bad s ≡ false) × Fillable s.n (size s) list.now nodes.old × Marks s.n list.now marked × (patterns marked s.n ≤ most_places) }
-    ensures { Filled s.n (size s) list.now Everywhere nodes.old nodes.new }
-{
-    let n = s.n;
-    let mut source = [0u16; TABLE];
-    represent(n, n, list, marked, &mut source);
-    fill_runs(s, list, marked, true, &source, nodes);
 }
 
 // The nodes that are not listed, from those that are.
@@ -158,10 +134,11 @@ pub fn fill(s: Shape, list: &[usize], nodes: &mut [u16])
 {
     let n = s.n;
     let marked = marks(n, list);
-    if pays(n, marked) {
-        fill_from_few(s, list, marked, nodes);
+    if !pays(n, marked) {
+        fill_runs(s, list, marked, None, nodes);
         return;
     }
-    let none = [0u16; 1];
-    fill_runs(s, list, marked, false, &none, nodes);
+    let mut few = [0u16; TABLE];
+    represent(n, n, list, marked, &mut few);
+    fill_runs(s, list, marked, Some(&few), nodes);
 }

@@ -51,15 +51,6 @@ module _ {dead helpers : List ℕ} {g : Layout} {u : ℕ} {sums pairs out : List
   unfolding node
   own_entry_lem v l = inr (member_of dead v l)
 
-  pub finished_none : FinishedTo g.shape dead helpers u sums 0 pairs pairs out out
-  finished_none = record {
-    pairs_same = refl;
-    out_same = refl;
-    first = λ y h. absurd (omega arith);
-    second = λ y h. absurd (omega arith);
-    sent = λ j y h k. absurd (omega arith);
-  }
-
   pub finished_more : (x : ℕ) (column pairs_now out_now pairs_after out_after : List ℕ) → x < message_size g.shape dead → FinishedTo g.shape dead helpers u sums x pairs pairs_now out out_now
       → Answered g.shape.n (spot_at g.shape dead u x).a (node dead u) (others (g.shape.n + 1) helpers) (x * equations g.shape) sums column
       → PairAt (node dead u) g.shape.n x column pairs_now pairs_after → SentAt dead u (message_size g.shape dead) x (length dead - 1) column out_now out_after

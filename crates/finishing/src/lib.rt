@@ -15,12 +15,12 @@ ghost use Rattle.arrival.specs.Promises.{Finishes};
 ghost use Rattle.finishing.specs.Steps.{Asked, Answered, SentAt, PairAt, Finishable, Finished};
 
 use arrival::judge_finish;
-use classes::{FEW, Layout, MEMBERS, laid_out, list_members, rank_class, rank_of};
+use classes::{Layout, laid_out, list_members, rank_class, rank_of, with_table};
 use code::point;
 use column::{ENTRIES, solve};
 use completion::{others, scatter, vandermonde};
 use field::subtract;
-use shape::{Answer, MODULUS, Shape};
+use shape::{MODULUS, Refusal, Shape};
 use transfers::other_rank;
 
 // The point of an entry of a column of n + 1 at a: a node's own, and behind them the opposite of node i's.
@@ -40,8 +40,8 @@ fn unknown_points(n: usize, a: usize, i: usize, unknown: &[usize]) -> [u32; ENTR
     ensures { (j : ℕ) → j < length unknown.now → element result j ≡ get_or (more_points narrow n a i) (element unknown.now j) 0 }
 {
     let mut out = [0u32; ENTRIES];
-    for j in 0..unknown.len() {
-        out[j] = entry_point(n, a, i, unknown[j]);
+    for (j, point) in out[..unknown.len()].iter_mut().enumerate() {
+        *point = entry_point(n, a, i, unknown[j]);
     }
     out
 }
@@ -52,8 +52,8 @@ fn right_sides(r: usize, at: usize, sums: &[u16]) -> [u32; ENTRIES]
     ensures { (t : ℕ) → t < r → element result t ≡ minus narrow.modulus 0 (get_or sums.now (at + t) 0) }
 {
     let mut out = [0u32; ENTRIES];
-    for t in 0..r {
-        out[t] = subtract(MODULUS, 0, sums[at + t] as u32);
+    for (t, side) in out[..r].iter_mut().enumerate() {
+        *side = subtract(MODULUS, 0, u32::from(sums[at + t]));
     }
     out
 }
@@ -122,7 +122,7 @@ fn finish_with(
     list_members(g, dead, rank_class(g, dead, u), class);
     let unknown = others(n + 1, helpers);
     for x in 0..g.share {
-        let a = class[x % g.members] as usize;
+        let a = usize::from(class[x % g.members]);
         let column = answer(n, a, i, &unknown[..r], x * r, sums);
         put_pair(i, n, x, column, pairs);
         send_sum(g, dead, u, x, column, out);
@@ -142,13 +142,10 @@ fn finish_into(
     requires { Finishable dead.now helpers.now g u sums.now pairs.old out.old }
     ensures { Finished g.shape dead.now helpers.now u sums.now pairs.new out.new }
 {
-    if g.places <= FEW {
-        let mut few = [0u16; FEW];
-        finish_with(g, dead, helpers, u, &mut few, sums, pairs, out);
-    } else {
-        let mut class = [0u16; MEMBERS];
-        finish_with(g, dead, helpers, u, &mut class, sums, pairs, out);
-    }
+    with_table(
+        g.places,
+        &mut |class| finish_with(g, dead, helpers, u, class, sums, pairs, out),
+    );
 }
 
 // Finishes the first step of a new node: its own pairs, and its message to each other new node, from the sums it kept.
@@ -161,15 +158,12 @@ pub fn finish(
     heard: &[usize],
     pairs: &mut [u16],
     out: &mut [u16],
-) -> Answer
+) -> Result<(), Refusal>
     ensures { Finishes s dead.now helpers.now new sums.now heard.now pairs.old pairs.new out.old out.new result }
 {
-    let judged = judge_finish(s, dead, helpers, new, sums, heard, pairs.len(), out.len());
-    let Answer::Done = judged else {
-        return judged;
-    };
+    judge_finish(s, dead, helpers, new, sums, heard, pairs.len(), out.len())?;
     let g = laid_out(s, dead);
     let u = rank_of(g, dead, new);
     finish_into(g, dead, helpers, u, sums, pairs, out);
-    Answer::Done
+    Ok(())
 }

@@ -3,7 +3,7 @@ use mathlib.Core.Path.{◌≡◌, refl, sym, ap, ap₂, ◌∙◌}
 use mathlib.Core.Logic.{◌⊎◌, inl, inr}
 use mathlib.Core.List.{List}
 use Prim.Native.Nat.{ℕ, zero, suc, ◌+◌, ◌-◌, ◌*◌, ◌/◌, ◌%◌, ◌^◌, ◌≤◌, ◌<◌}
-use native.Mathlib.Nat.{add-mod-mod, mul_comm, zero-mul, div_self, zero-div, mod-lt}
+use native.Mathlib.Nat.{add-mod-mod, mul_comm, div_self, zero-div, mod-lt}
 use native.Mathlib.Omega.{arith}
 use lib.Arith.{digits_div, digits_mod}
 use lib.ListN.{length, get_or, replicate}
@@ -18,7 +18,7 @@ use Rattle.column.specs.Solving.{most_entries, power_of}
 use Rattle.shape.specs.declared.Shape.{Shape}
 use Rattle.code.specs.Code.{Code, narrow, point}
 use Rattle.rows.specs.Rows.{Stored}
-use Rattle.rows.proofs.Rows.{stored_none, stored_low, low_replicate}
+use Rattle.rows.proofs.Rows.{stored_low, low_replicate}
 use Rattle.classes.specs.Classes.{spot_at, message_size}
 use Rattle.arrival.specs.Sums.{equations, kept_size, term_at, added_at, added_to}
 use Rattle.hearing.specs.Steps.{BothPowers, summed}
@@ -57,9 +57,6 @@ both_stored r i first second now after few v w f s = record {
     go a t h (suc (suc b)) e l = absurd (omega arith)
 
 -- ---- one symbol more
-
-pub none_added : (r : ℕ) (f : ℕ → ℕ) (old : List ℕ) → Stored 0 (0 * r) f old old
-none_added r f old = rw (zero-mul r) (stored_none 0 f old)
 
 -- a row behind those that are stored
 stored_row : (m r : ℕ) (f g : ℕ → ℕ) (old now after : List ℕ) → Stored 0 m f old now → Stored m r g now after → ((t : ℕ) → t < r → g t ≡ f (m + t)) → Stored 0 (m + r) f old after

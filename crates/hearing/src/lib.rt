@@ -13,11 +13,11 @@ ghost use Rattle.arrival.specs.Promises.{Hears};
 ghost use Rattle.hearing.specs.Steps.{BothPowers, summed, Hearable};
 
 use arrival::judge_hear;
-use classes::{FEW, Layout, MEMBERS, laid_out, list_members, rank_class, rank_of};
+use classes::{Layout, laid_out, list_members, rank_class, rank_of, with_table};
 use code::point;
 use column::ENTRIES;
 use completion::powers;
-use shape::{Answer, MODULUS, Shape, two_to};
+use shape::{MODULUS, Refusal, Shape, two_to};
 
 // Two rows of powers.
 const ROWS: usize = 2 * ENTRIES;
@@ -27,9 +27,7 @@ fn put_row(r: usize, row: [u32; ENTRIES], at: usize, out: &mut [u32; ROWS])
     requires { (r ≤ most_entries) × (length row ≡ most_entries) × (length out.old ≡ 2 * most_entries) × (at + r ≤ 2 * most_entries) }
     ensures { Stored at r (element row) out.old out.new }
 {
-    for t in 0..r {
-        out[at + t] = row[t];
-    }
+    out[at..at + r].copy_from_slice(&row[..r]);
 }
 
 // The first r powers of both points of a node: in the first row where its bit of a is 0, in the second where it is 1.
@@ -48,19 +46,13 @@ fn both_powers(r: usize, i: usize) -> [u32; ROWS]
     out
 }
 
-fn wide(x: u16) -> u32
-    ensures { (result ≡ x) × (result < 65536) }
-{
-    x as u32
-}
-
 // Adds a symbol of a message, times the powers of its point, to the r sums that are kept for it.
 fn add_symbol(r: usize, symbol: u16, factors: &[u32], from: usize, at: usize, sums: &mut [u16])
     requires { (from + r ≤ length factors.now) × (at + r ≤ length sums.old) × Low narrow.modulus factors.now }
     ensures { Stored at r (summed symbol factors.now from at sums.old) sums.old sums.new }
 {
-    for t in 0..r {
-        sums[at + t] = ((wide(sums[at + t]) + wide(symbol) * factors[from + t]) % MODULUS) as u16;
+    for (t, sum) in sums[at..at + r].iter_mut().enumerate() {
+        *sum = ((u32::from(*sum) + u32::from(symbol) * factors[from + t]) % MODULUS) as u16;
     }
 }
 
@@ -91,9 +83,9 @@ fn add_with(
     list_members(g, dead, rank_class(g, dead, u), class);
     let factors = both_powers(r, helper);
     let mut j = 0;
-    for x in 0..message.len() {
+    for (x, &symbol) in message.iter().enumerate() {
         let row = (class[j] as usize >> helper) % 2;
-        add_symbol(r, message[x], &factors, row * ENTRIES, x * r, sums);
+        add_symbol(r, symbol, &factors, row * ENTRIES, x * r, sums);
         j = next_member(g, j);
     }
 }
@@ -110,13 +102,10 @@ fn add_message(
     requires { Hearable dead.now g u helper message.now sums.old }
     ensures { sums.new ≡ added_to narrow g.shape dead.now u helper message.now sums.old }
 {
-    if g.places <= FEW {
-        let mut few = [0u16; FEW];
-        add_with(g, dead, u, helper, &mut few, message, sums);
-    } else {
-        let mut class = [0u16; MEMBERS];
-        add_with(g, dead, u, helper, &mut class, message, sums);
-    }
+    with_table(
+        g.places,
+        &mut |class| add_with(g, dead, u, helper, class, message, sums),
+    );
 }
 
 // Notes a helper in the record of those heard.
@@ -139,16 +128,13 @@ pub fn hear(
     message: &[u16],
     sums: &mut [u16],
     heard: &mut [usize],
-) -> Answer
+) -> Result<(), Refusal>
     ensures { Hears s dead.now helpers.now new helper message.now sums.old sums.new heard.old heard.new result }
 {
-    let judged = judge_hear(s, dead, helpers, new, helper, message, sums, heard);
-    let Answer::Done = judged else {
-        return judged;
-    };
+    judge_hear(s, dead, helpers, new, helper, message, sums, heard)?;
     let g = laid_out(s, dead);
     let u = rank_of(g, dead, new);
     add_message(g, dead, u, helper, message, sums);
     note(helper, heard);
-    Answer::Done
+    Ok(())
 }

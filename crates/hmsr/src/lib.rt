@@ -12,18 +12,15 @@ ghost use Rattle.plan.specs.Promises.{Plans};
 ghost use Rattle.choosing.specs.Promises.{Chooses};
 ghost use Rattle.ordering.specs.Promises.{Orders};
 ghost use Rattle.correcting.specs.Promises.{Corrects};
-ghost use Rattle.returned.specs.Promises.{Returned, shape_of, header_from, check_returned, pack_returned, plan_returned, layers_returned, read_returned, UnpackReturned};
+ghost use Rattle.returned.specs.Promises.{Returned, shape_of, header_from, check_returned, found_number, UnpackReturned};
 
-use card::{Header, Packed, Unpacked};
-use checking::Checked;
-use choosing::Chosen;
-use plan::Planned;
-use returned::{answer_number, equation_number, store_header, symbol_number, unpack_room};
-use shape::{Shape, number_of};
-use stretches::Read;
-
-// What check, pack, plan, layers and the stretches find is returned behind the numbers below this one, which are refusals'.
-const FIRST_FOUND: usize = 256;
+use card::Header;
+use checking::Fault;
+use returned::{
+    FIRST_FOUND, answer_number, equation_number, found_number, store_header, symbol_number,
+    unpack_room,
+};
+use shape::Shape;
 
 // The archive of a transcript.
 #[unsafe(no_mangle)]
@@ -48,10 +45,10 @@ pub extern "C" fn hmsr_check(n: usize, k: usize, layers: usize, nodes: &[u16]) -
 {
     let s = Shape { n, k, layers };
     match checking::check(s, nodes) {
-        Checked::Sound => 0,
-        Checked::Refused(cause) => number_of(cause),
-        Checked::Unmet { layer, a, t } => FIRST_FOUND + equation_number(s, layer, a, t),
-        Checked::HighData { node, place } => FIRST_FOUND + symbol_number(s, node, place),
+        Ok(None) => 0,
+        Ok(Some(Fault::Unmet { layer, a, t })) => FIRST_FOUND + equation_number(s, layer, a, t),
+        Ok(Some(Fault::HighData { node, place })) => FIRST_FOUND + symbol_number(s, node, place),
+        Err(cause) => usize::from(cause),
     }
 }
 
@@ -102,13 +99,10 @@ pub extern "C" fn hmsr_open_stretches(
     bytes: &mut [u8],
     columns: &mut [usize],
 ) -> usize
-    ensures { Returned read_returned (OpensStretches (shape_of n k layers) list.now symbols.now len stretches.now bytes.old bytes.new columns.old columns.new) result }
+    ensures { Returned found_number (OpensStretches (shape_of n k layers) list.now symbols.now len stretches.now bytes.old bytes.new columns.old columns.new) result }
 {
     let s = Shape { n, k, layers };
-    match stretches::open_stretches(s, list, symbols, len, stretches, bytes, columns) {
-        Read::Refused(cause) => number_of(cause),
-        Read::Symbols(count) => FIRST_FOUND + count,
-    }
+    found_number(stretches::open_stretches(s, list, symbols, len, stretches, bytes, columns))
 }
 
 // A helper's message to a new node.
@@ -237,7 +231,7 @@ pub extern "C" fn hmsr_pack(
     symbols: &[u16],
     card: &mut [u8],
 ) -> usize
-    ensures { Returned pack_returned (Packs (header_from n k layers node len hearing) symbols.now card.old card.new) result }
+    ensures { Returned found_number (Packs (header_from n k layers node len hearing) symbols.now card.old card.new) result }
 {
     let shape = Shape { n, k, layers };
     let header = Header {
@@ -246,10 +240,7 @@ pub extern "C" fn hmsr_pack(
         len,
         hearing,
     };
-    match card::pack(header, symbols, card) {
-        Packed::Refused(cause) => number_of(cause),
-        Packed::Card(long) => FIRST_FOUND + long,
-    }
+    found_number(card::pack(header, symbols, card))
 }
 
 // The header and the symbols of a card.
@@ -259,34 +250,28 @@ pub extern "C" fn hmsr_unpack(card: &[u8], symbols: &mut [u16], header: &mut [us
 {
     let room = unpack_room(header.len(), symbols.len());
     match unpacking::unpack(card, &mut symbols[..room]) {
-        Unpacked::Refused(cause) => number_of(cause),
-        Unpacked::Header(read) => {
+        Ok(read) => {
             store_header(read, header);
             0
         }
+        Err(cause) => usize::from(cause),
     }
 }
 
 // The plan's text for an input: a refusal's number, or the text's length behind FIRST_FOUND.
 #[unsafe(no_mangle)]
 pub extern "C" fn hmsr_plan(input: &[u8], text: &mut [u8]) -> usize
-    ensures { Returned plan_returned (Plans input.now text.old text.new) result }
+    ensures { Returned found_number (Plans input.now text.old text.new) result }
 {
-    match plan::plan(input, text) {
-        Planned::Refused(cause) => number_of(cause),
-        Planned::Text(long) => FIRST_FOUND + long,
-    }
+    found_number(plan::plan(input, text))
 }
 
 // The smallest number of layers that serves a list of losses (document 02 §6): a refusal's number, or L behind FIRST_FOUND.
 #[unsafe(no_mangle)]
 pub extern "C" fn hmsr_layers(n: usize, k: usize, losses: &[usize]) -> usize
-    ensures { Returned layers_returned (Chooses n k losses.now) result }
+    ensures { Returned found_number (Chooses n k losses.now) result }
 {
-    match choosing::layers(n, k, losses) {
-        Chosen::Refused(cause) => number_of(cause),
-        Chosen::Layers(least) => FIRST_FOUND + least,
-    }
+    found_number(choosing::layers(n, k, losses))
 }
 
 // Whether the transfers of a repair may run in the order of a list of numbers, sender then receiver (document 02 §12): 0 where they may.

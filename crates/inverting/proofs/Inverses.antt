@@ -1,14 +1,14 @@
 -- The products of the pivots, and their inverses by one power.
-use mathlib.Core.Path.{◌≡◌, refl, sym, ap, ap₂, ◌∙◌}
+use mathlib.Core.Path.{◌≡◌, refl, sym, ap, ◌∙◌}
 use mathlib.Core.Logic.{◌≢◌}
-use mathlib.Core.List.{List, ◌++◌}
+use mathlib.Core.List.{List}
 use Prim.Native.Nat.{ℕ, zero, suc, ◌+◌, ◌*◌, ◌%◌, ◌≤◌, ◌<◌}
 use native.Mathlib.Nat.{mod-lt, mod-eq_of_lt}
 use native.Mathlib.Numerals.{add-one}
 use native.Mathlib.Decide.{ℕ_discrete}
 use native.Mathlib.Omega.{arith}
-use lib.ListN.{length, take, set, length-set, get_or-append}
-use lib.Seq.{get_or-set_same, get_or-set_other, get_or-take, length-take-le}
+use lib.ListN.{length, set, length-set}
+use lib.Seq.{get_or-set_same, get_or-set_other}
 use Rattle.lists.specs.Lists.{element}
 use Rattle.field.specs.Residues.{Prime}
 use Rattle.field.proofs.Ring.{mul_ne_zero}
@@ -106,23 +106,3 @@ module _ (q : ℕ) (row : List ℕ) where
     small = stored_down (λ k x. x < q) out i (length row) v (omega (arith, w.long)) w.small low;
     one = λ p. stored_down (λ k x. (element row k * x) % q ≡ 1) out i (length row) v (omega (arith, w.long)) (w.one p) (one p);
   }
-
-pub inverted_low : (q : ℕ) (row out : List ℕ) → Inverted q row 0 out → (i : ℕ) → i < length out → element out i < q
-inverted_low q row out w i h = w.small i (omega arith) (omega (arith, w.long))
-
--- the first r elements of a row inverted
-module _ (q r : ℕ) (row out : List ℕ) (h : r ≤ length row) (w : Inverted q (take r row) 0 out) where
-  pub inverted_length : length out ≡ r
-  inverted_length = w.long ∙ length-take-le r row h
-
-  -- with anything behind them
-  module _ (rest : List ℕ) where
-    at_front : (i : ℕ) → i < r → element (out ++ rest) i ≡ element out i
-    at_front i l = get_or-append out rest 0 i (omega (arith, inverted_length))
-
-    pub inverted_front : Pivots q r (element row) → (i : ℕ) → i < r → (element row i * element (out ++ rest) i) % q ≡ 1
-    inverted_front p i l =
-        ap₂ (λ x y. (x * y) % q) (sym (get_or-take r row i 0 l)) (at_front i l)
-        ∙ w.one
-        (rw (length-take-le r row h) (pivots_ext q r (element row) (element (take r row)) (λ k m. get_or-take r row k 0 m) p)) i (omega arith)
-        (omega (arith, length-take-le r row h))

@@ -12,9 +12,8 @@ use Rattle.lists.proofs.Tests.{neither, all_at}
 use Rattle.shape.specs.declared.Shape.{Shape}
 use Rattle.shape.specs.Shape.{most_nodes, size}
 use Rattle.shape.specs.declared.Refusal.{Refusal}
-use Rattle.shape.specs.declared.Answer.{Answer}
-use Rattle.shape.specs.declared.Answer.TheVariants.{Done, Refused}
-use Rattle.shape.specs.Refusals.{number_of, answer_number, afterwards, refuse, shape_bad, repair_bad, layers_bad, wrong_length, symbol_bad}
+use Rattle.std.specs.Prelude.{Ok, Err}
+use Rattle.shape.specs.Refusals.{number_of, answer_number, afterwards, refuse, shape_bad, repair_bad, layers_bad, wrong_length, symbol_bad, Answer}
 use Rattle.shape.proofs.Accepted.{passed, shape_accepted, repair_accepted, layers_accepted, symbols_accepted, most_size}
 use Rattle.shape.proofs.Answers.{number_positive, afterwards_refused}
 use Rattle.code.specs.Code.{narrow}
@@ -71,18 +70,18 @@ turned r = go (number_of r) (number_positive r)
     go (suc k) h = (k, refl)
 
 -- and leaves a lent buffer as it was
-pub turned_back : (a : Answer) (r : Refusal) (number : ℕ) (before made : List ℕ) → a ≡ Refused r → answer_number a ≡ number → before ≡ afterwards number before made
+pub turned_back : (a : Answer) (r : Refusal) (number : ℕ) (before made : List ℕ) → a ≡ Err r → answer_number a ≡ number → before ≡ afterwards number before made
 turned_back a r number before made e q = sym (afterwards_refused before made r number (ap answer_number (sym e) ∙ q))
 
-pub turned_number : (a : Answer) (r : Refusal) (number : ℕ) → a ≡ Refused r → answer_number a ≡ number → number ≡ 0 → ⊥
+pub turned_number : (a : Answer) (r : Refusal) (number : ℕ) → a ≡ Err r → answer_number a ≡ number → number ≡ 0 → ⊥
 turned_number a r number e q z = let n = number_positive r in omega (arith, ap answer_number (sym e) ∙ q)
 
 -- what a call answers, by what the causes 1 to 3 were answered with, and then by 4, a wrong length, and 5, a bad symbol
 module _ (s : Shape) (dead helpers : List ℕ) (unnamed : Bool) (lists : Answer) (e : answer_number lists ≡ lists_refusal s dead helpers unnamed 0) where
-  pub judged_stop : (r : Refusal) → lists ≡ Refused r → (rest : ℕ) → answer_number lists ≡ lists_refusal s dead helpers unnamed rest
-  judged_stop r d rest = let n = turned r in let f = ap answer_number d ∙ n.1 in f ∙ sym (listed_stop s dead helpers unnamed rest n.0 (sym e ∙ f))
+  pub judged_stop : (r : Refusal) → lists ≡ Err r → (rest : ℕ) → number_of r ≡ lists_refusal s dead helpers unnamed rest
+  judged_stop r d rest = let n = turned r in n.1 ∙ sym (listed_stop s dead helpers unnamed rest n.0 (sym e ∙ ap answer_number d ∙ n.1))
 
-  module _ (d : lists ≡ Done) where
+  module _ (d : lists ≡ Ok tt) where
     pub judged_listed : Listed s dead helpers unnamed
     judged_listed = (listed_passed s dead helpers unnamed 0 (sym e ∙ ap answer_number d)).0
 

@@ -9,25 +9,29 @@ ghost use Rattle.code.specs.Code.{narrow};
 ghost use Rattle.lists.specs.Lists.{all, rising};
 
 use shape::{
-    Answer, MODULUS, Refusal, Shape, batch, layers_bad, listed, repair_bad, shape_bad, size,
-    symbol_bad,
+    MODULUS, Refusal, Shape, batch, layers_bad, listed, repair_bad, shape_bad, size, symbol_bad,
 };
 
 // Causes 1 to 3, which all calls of a repair share. Nothing is worked out from the shape before it is judged.
-pub fn judge_lists(s: Shape, dead: &[usize], helpers: &[usize], unnamed: bool) -> Answer
+pub fn judge_lists(
+    s: Shape,
+    dead: &[usize],
+    helpers: &[usize],
+    unnamed: bool,
+) -> Result<(), Refusal>
     ensures { answer_number result ≡ lists_refusal s dead.now helpers.now unnamed 0 }
 {
     if shape_bad(s) {
-        return Answer::Refused(Refusal::BadShape);
+        return Err(Refusal::BadShape);
     }
     if repair_bad(s, dead, helpers) | unnamed {
-        return Answer::Refused(Refusal::BadNodes);
+        return Err(Refusal::BadNodes);
     }
     let layers = s.layers;
     if layers_bad(layers, batch(dead.len())) {
-        return Answer::Refused(Refusal::PartBatch);
+        return Err(Refusal::PartBatch);
     }
-    Answer::Done
+    Ok(())
 }
 
 // What helper_message turns back for.
@@ -39,22 +43,19 @@ pub fn judge_message(
     new: usize,
     symbols: &[u16],
     room: usize,
-) -> Answer
+) -> Result<(), Refusal>
     ensures { answer_number result ≡ message_refusal narrow s dead.now helpers.now helper new symbols.now room }
 {
     let unnamed = !listed(helpers, helper) | !listed(dead, new);
-    let lists = judge_lists(s, dead, helpers, unnamed);
-    let Answer::Done = lists else {
-        return lists;
-    };
+    judge_lists(s, dead, helpers, unnamed)?;
     let full = size(s);
     if (symbols.len() != full) | (room != full / (dead.len() + 1)) {
-        return Answer::Refused(Refusal::WrongLength);
+        return Err(Refusal::WrongLength);
     }
     if symbol_bad(MODULUS, symbols) {
-        return Answer::Refused(Refusal::BadSymbol);
+        return Err(Refusal::BadSymbol);
     }
-    Answer::Done
+    Ok(())
 }
 
 // What second_step turns back for.
@@ -66,23 +67,20 @@ pub fn judge_second(
     pairs: &[u16],
     received: &[u16],
     room: usize,
-) -> Answer
+) -> Result<(), Refusal>
     ensures { answer_number result ≡ second_step_refusal narrow s dead.now helpers.now new pairs.now received.now room }
 {
-    let lists = judge_lists(s, dead, helpers, !listed(dead, new));
-    let Answer::Done = lists else {
-        return lists;
-    };
+    judge_lists(s, dead, helpers, !listed(dead, new))?;
     let full = size(s);
     let h = dead.len();
     let share = full / (h + 1);
     if (pairs.len() != 2 * share) | (received.len() != (h - 1) * share) | (room != full) {
-        return Answer::Refused(Refusal::WrongLength);
+        return Err(Refusal::WrongLength);
     }
     if symbol_bad(MODULUS, pairs) | symbol_bad(MODULUS, received) {
-        return Answer::Refused(Refusal::BadSymbol);
+        return Err(Refusal::BadSymbol);
     }
-    Answer::Done
+    Ok(())
 }
 
 // What first_step turns back for.
@@ -94,23 +92,20 @@ pub fn judge_first(
     messages: &[u16],
     pairs: usize,
     sums: usize,
-) -> Answer
+) -> Result<(), Refusal>
     ensures { answer_number result ≡ first_step_refusal narrow s dead.now helpers.now new messages.now pairs sums }
 {
-    let lists = judge_lists(s, dead, helpers, !listed(dead, new));
-    let Answer::Done = lists else {
-        return lists;
-    };
+    judge_lists(s, dead, helpers, !listed(dead, new))?;
     let k = s.k;
     let h = dead.len();
     let share = size(s) / (h + 1);
     if (messages.len() != (k + 1) * share) | (pairs != 2 * share) | (sums != (h - 1) * share) {
-        return Answer::Refused(Refusal::WrongLength);
+        return Err(Refusal::WrongLength);
     }
     if symbol_bad(MODULUS, messages) {
-        return Answer::Refused(Refusal::BadSymbol);
+        return Err(Refusal::BadSymbol);
     }
-    Answer::Done
+    Ok(())
 }
 
 // Cause 5 of a whole repair: "the dead and the nodes not listed are not looked at".
@@ -119,14 +114,12 @@ fn helpers_bad(s: Shape, helpers: &[usize], nodes: &[u16]) -> bool
     ensures { result ≡ not (all (node_good narrow s nodes.now) helpers.now) }
 {
     let full = size(s);
-    let mut j = 0;
-    while j < helpers.len() {
-        let at = helpers[j] * full;
+    for &helper in helpers {
+        let at = helper * full;
         let end = at + full;
         if symbol_bad(MODULUS, &nodes[at..end]) {
             return true;
         }
-        j += 1;
     }
     false
 }
@@ -138,22 +131,19 @@ pub fn judge_whole(
     helpers: &[usize],
     nodes: &[u16],
     wire: usize,
-) -> Answer
+) -> Result<(), Refusal>
     ensures { answer_number result ≡ whole_refusal narrow s dead.now helpers.now nodes.now wire }
 {
-    let lists = judge_lists(s, dead, helpers, false);
-    let Answer::Done = lists else {
-        return lists;
-    };
+    judge_lists(s, dead, helpers, false)?;
     let n = s.n;
     let k = s.k;
     let full = size(s);
     let h = dead.len();
     if (nodes.len() != n * full) | (wire != h * (k + h) * (full / (h + 1))) {
-        return Answer::Refused(Refusal::WrongLength);
+        return Err(Refusal::WrongLength);
     }
     if helpers_bad(s, helpers, nodes) {
-        return Answer::Refused(Refusal::BadSymbol);
+        return Err(Refusal::BadSymbol);
     }
-    Answer::Done
+    Ok(())
 }

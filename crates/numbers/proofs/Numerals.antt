@@ -6,15 +6,12 @@ use native.Mathlib.Omega.{arith}
 use lib.ListN.{length, get_or, drop, drop_of_length-le, length-append}
 use lib.Seq.{sets}
 use Rattle.lists.proofs.Scans.{drop_next}
-use Rattle.lists.proofs.Writing.{Writing, writing_all, writing_piece, writing_room, writing_end}
+use Rattle.lists.proofs.Writing.{Writing, writing_piece, writing_room, writing_end}
 use Rattle.numbers.specs.Numbers.{most_groups, numeral}
 
 -- the numerals of vs are written over `old` from a place on, and those from number i on are still to come
 abbrev pub Numerals : List ℕ → List ℕ → ℕ → ℕ → List ℕ → ℕ → Type 0
 Numerals vs old from i now at = Writing (flat_map (numeral most_groups) vs) old from (flat_map (numeral most_groups) (drop i vs)) now at
-
-pub numerals_all : (vs old : List ℕ) (from : ℕ) → Numerals vs old from 0 old from
-numerals_all vs old from = writing_all (flat_map (numeral most_groups) vs) old from
 
 module _ (vs old : List ℕ) (from i : ℕ) (now : List ℕ) (at : ℕ) (w : Numerals vs old from i now at) where
   next : i < length vs → flat_map (numeral most_groups) (drop i vs) ≡ numeral most_groups (get_or vs i 0) ++ flat_map (numeral most_groups) (drop (i + 1) vs)

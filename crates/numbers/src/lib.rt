@@ -15,66 +15,58 @@ const GROUP_VALUES: usize = 128;
 
 // What is read at a place: a number and the place behind it.
 #[derive(Clone, Copy)]
-pub enum Number {
-    Read { value: usize, next: usize },
-    Malformed,
-}
-
-fn wide(b: u8) -> usize
-    ensures { result ≡ b }
-{
-    b as usize
+pub struct Number {
+    pub value: usize,
+    pub next: usize,
 }
 
 // The number at a place, group by group: least first, each worth GROUP_VALUES times the one before it.
-fn read_groups(bytes: &[u8], at: usize) -> Number
+fn read_groups(bytes: &[u8], at: usize) -> Option<Number>
     ensures { result ≡ number_at most_groups bytes.now at }
 {
     let mut value = 0;
     let mut worth = 1;
     let mut place = at;
-    let mut groups = 0;
-    while groups < MOST_GROUPS {
+    for groups in 0..MOST_GROUPS {
         if bytes.len() <= place {
-            return Number::Malformed;
+            return None;
         }
-        let b = wide(bytes[place]);
+        let b = usize::from(bytes[place]);
         place += 1;
         if b < GROUP_VALUES {
             // A last group of 0 is not the shortest form.
             if (0 < groups) & (b == 0) {
-                return Number::Malformed;
+                return None;
             }
-            return Number::Read {
+            return Some(Number {
                 value: value + worth * b,
                 next: place,
-            };
+            });
         }
         value += worth * (b - GROUP_VALUES);
         worth *= GROUP_VALUES;
-        groups += 1;
     }
-    Number::Malformed
+    None
 }
 
 // The number at a place, any place. Symbols have one or two groups, and which comes next nothing foretells: a number of one
 // or two is read without a branch between them.
-pub fn read_number(bytes: &[u8], at: usize) -> Number
+pub fn read_number(bytes: &[u8], at: usize) -> Option<Number>
     ensures { result ≡ number_at most_groups bytes.now at }
 {
     if bytes.len() <= at {
-        return Number::Malformed;
+        return None;
     }
     let next = at + 1;
     if next < bytes.len() {
-        let b = wide(bytes[at]);
+        let b = usize::from(bytes[at]);
         let more = b / GROUP_VALUES; // 1 where a second group follows, else 0
-        let high = more * wide(bytes[next]);
+        let high = more * usize::from(bytes[next]);
         if more <= high && high < GROUP_VALUES {
-            return Number::Read {
+            return Some(Number {
                 value: b % GROUP_VALUES + GROUP_VALUES * high,
                 next: next + more,
-            };
+            });
         }
     }
     read_groups(bytes, at)
@@ -102,24 +94,20 @@ pub fn write_numbers(numbers: &[usize], card: &mut [u8], at: usize) -> usize
     ensures { (result ≡ at + length (flat_map (numeral most_groups) numbers.now)) × (card.new ≡ sets card.old at (flat_map (numeral most_groups) numbers.now)) }
 {
     let mut place = at;
-    let mut i = 0;
-    while i < numbers.len() {
-        place = write_number(numbers[i], card, place);
-        i += 1;
+    for &number in numbers {
+        place = write_number(number, card, place);
     }
     place
 }
 
-// The same of symbols.
+// The same of symbols. The loops are two: clauses of one for both types would speak of a list that `map` makes, at usize too.
 pub fn write_symbols(symbols: &[u16], card: &mut [u8], at: usize) -> usize
     requires { at + length (flat_map (numeral most_groups) symbols.now) ≤ length card.old }
     ensures { (result ≡ at + length (flat_map (numeral most_groups) symbols.now)) × (card.new ≡ sets card.old at (flat_map (numeral most_groups) symbols.now)) }
 {
     let mut place = at;
-    let mut i = 0;
-    while i < symbols.len() {
-        place = write_number(symbols[i] as usize, card, place);
-        i += 1;
+    for &symbol in symbols {
+        place = write_number(usize::from(symbol), card, place);
     }
     place
 }

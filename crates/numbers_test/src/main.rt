@@ -3,7 +3,7 @@
 // python3 tests/card_expected.py numbers > crates/numbers_test/stdout
 #![tactic(auto)]
 
-use numbers::Number;
+use numbers::{Number, read_number};
 use std::io;
 
 // Bytes that start, continue and end numbers.
@@ -30,19 +30,16 @@ fn mixed(digest: u64, x: usize) -> u64 {
 }
 
 fn read(t: Tally, bytes: &[u8], at: usize) -> Tally {
-    let digest = t.digest;
-    let read = t.read;
-    let malformed = t.malformed;
-    match numbers::read_number(bytes, at) {
-        Number::Read { value, next } => Tally {
-            digest: mixed(mixed(mixed(digest, 0), value), next),
-            read: read % PRIME + 1,
-            malformed,
+    match read_number(bytes, at) {
+        Some(Number { value, next }) => Tally {
+            digest: mixed(mixed(mixed(t.digest, 0), value), next),
+            read: t.read % PRIME + 1,
+            ..t
         },
-        Number::Malformed => Tally {
-            digest: mixed(digest, 6),
-            read,
-            malformed: malformed % PRIME + 1,
+        None => Tally {
+            digest: mixed(t.digest, 6),
+            malformed: t.malformed % PRIME + 1,
+            ..t
         },
     }
 }
@@ -94,21 +91,27 @@ fn report(rt: &impl Print, name: &[u8], t: Tally) -> io::Result<()> {
     print(rt, t.malformed, b" 0 0\n")
 }
 
-fn run(rt: &impl Print, name: &[u8], pairs: bool, cases: usize) -> io::Result<()> {
+// The cases 0 to cases − 1, each added to the tally by `add`.
+fn run<F: Fn(Tally, usize) -> Tally>(
+    rt: &impl Print,
+    name: &[u8],
+    add: F,
+    cases: usize,
+) -> io::Result<()>
+    requires { F.IsAlwaysCallable add }
+{
     let mut t = Tally {
         digest: 0,
         read: 0,
         malformed: 0,
     };
-    let mut i = 0;
-    while i < cases {
-        t = if pairs { paired(t, i) } else { placed(t, i) };
-        i += 1;
+    for i in 0..cases {
+        t = add(t, i);
     }
     report(rt, name, t)
 }
 
 fn main(rt: HostRuntime) -> io::Result<()> {
-    run(&rt, b"placed ", false, 373248)?;
-    run(&rt, b"paired ", true, 65536)
+    run(&rt, b"placed ", placed, 373248)?;
+    run(&rt, b"paired ", paired, 65536)
 }

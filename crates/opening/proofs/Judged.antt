@@ -9,8 +9,8 @@ use lib.ListN.{length, get_or, take}
 use lib.Seq.{ext_get_or, get_or-take}
 use Rattle.lists.specs.Lists.{element}
 use Rattle.shape.specs.declared.Shape.{Shape}
-use Rattle.shape.specs.declared.Answer.{Answer}
-use Rattle.shape.specs.declared.Answer.TheVariants.{Done, Refused}
+use Rattle.std.specs.Prelude.{Ok, Err}
+use Rattle.shape.specs.Refusals.{Answer}
 use Rattle.shape.specs.declared.Refusal.TheVariants.{NoTranscript}
 use Rattle.shape.specs.Shape.{size}
 use Rattle.shape.proofs.Answers.{afterwards_done, afterwards_refused}
@@ -50,13 +50,13 @@ module _ (s : Shape) (list symbols before : List ℕ) (input : open_input_refusa
   abbrev AllFit : Type 0
   AllFit = (e : ℕ) → e < s.k * size s → data_fits len e (get_or (data_of narrow s list symbols) e 0) ≡ true
 
-  turned : (after : List ℕ) → (AllFit → ⊥) → after ≡ before → OpenedAll s list symbols before after (Refused NoTranscript)
+  turned : (after : List ℕ) → (AllFit → ⊥) → after ≡ before → OpenedAll s list symbols before after (Err NoTranscript)
   turned after off e =
       let seven = fit_not_all s list symbols len len able off in
       record { long = ap length e; number = sym seven; bytes = e ∙ sym (afterwards_refused before _ NoTranscript _ (sym seven)) }
 
   done : (after : List ℕ) → AllFit → length after ≡ length before → ((e : ℕ) → e < length before → get_or after e 0 ≡ get_or (data_of narrow s list symbols) e 0)
-      → OpenedAll s list symbols before after Done
+      → OpenedAll s list symbols before after (Ok tt)
   done after all long there =
       let none = fit_all s list symbols len len able all in
       record { long = long; number = sym none; bytes = opened_end s list symbols len len able after long there ∙ sym (afterwards_done before _ _ none) }
@@ -67,11 +67,11 @@ module _ (s : Shape) (list symbols before : List ℕ) (input : open_input_refusa
   same = opened_data s list symbols (readable s list symbols len len input)
 
   pub turned_back : (after : List ℕ) (fit : Bool) → fit ≡ false → Walked (opened s list symbols) (length before) 0 (AllData s) before after fit
-      → OpenedAll s list symbols before after (Refused NoTranscript)
+      → OpenedAll s list symbols before after (Err NoTranscript)
   turned_back after fit off w = turned after (λ all. w.misfit off (λ e h. rw (same e h) (all e h))) (judged_only _ _ _ _ _ _ w)
 
   pub judged_stored : (now after : List ℕ) (fit again : Bool) → fit ≡ true → Walked (opened s list symbols) (length before) 0 (AllData s) before now fit
-      → Walked (opened s list symbols) (length before) (length before) (AllData s) now after again → OpenedAll s list symbols before after Done
+      → Walked (opened s list symbols) (length before) (length before) (AllData s) now after again → OpenedAll s list symbols before after (Ok tt)
   judged_stored now after fit true on w v =
       done after (λ e h. rw (← same e h) (w.fits on e h)) (v.long ∙ w.long)
       (λ e h. let l : e < s.k * size s = omega (arith, able.fits) in v.there refl e l h ∙ same e l)
@@ -84,7 +84,7 @@ module _ (s : Shape) (list symbols before : List ℕ) (input : open_input_refusa
     here = whole_data s list symbols (readable s list symbols len len input) last
 
     pub copy_turned_back : (((t : ℕ) → t < length symbols → data_fits (length before) (0 + t) (get_or symbols t 0) ≡ true) → ⊥)
-        → OpenedAll s list symbols before before (Refused NoTranscript)
+        → OpenedAll s list symbols before before (Err NoTranscript)
     copy_turned_back off =
         turned before
         (λ all. off (λ t h.
@@ -93,7 +93,7 @@ module _ (s : Shape) (list symbols before : List ℕ) (input : open_input_refusa
         refl
 
     pub data_copied : (after : List ℕ) → ((t : ℕ) → t < length symbols → data_fits (length before) (0 + t) (get_or symbols t 0) ≡ true)
-        → Stored 0 (length before) (element (take (length before) symbols)) before after → OpenedAll s list symbols before after Done
+        → Stored 0 (length before) (element (take (length before) symbols)) before after → OpenedAll s list symbols before after (Ok tt)
     data_copied after fit put =
         done after (λ e h. let z : 0 + e ≡ e = omega arith in rw (here e h) (rw z at (fit e (omega (arith, able.long))))) put.long
         (λ e h.
@@ -104,11 +104,11 @@ module _ (s : Shape) (list symbols before : List ℕ) (input : open_input_refusa
 pub opens_by : (s : Shape) (list symbols : List ℕ) (len : ℕ) (before after : List ℕ) (answer : Answer) → open_input_refusal narrow s list symbols len (length before) 0 ≡ 0
     → OpenedAll s list symbols before after answer → Opens s list symbols len before after answer
 unfolding open_refusal
-opens_by s list symbols len before after Done input w =
+opens_by s list symbols len before after (Ok tt) input w =
     let able = open_accepted s list symbols len (length before) input in
     let fine : data_refusal narrow s list symbols len ≡ 0 = rw able.whole at (sym w.number) in
     opens_done s list symbols len before after input (able.then _ ∙ fine) (rw able.whole at (w.bytes ∙ afterwards_done before _ _ (sym w.number)))
-opens_by s list symbols len before after (Refused cause) input w =
+opens_by s list symbols len before after (Err cause) input w =
     let able = open_accepted s list symbols len (length before) input in
-    subst (λ z. Opens s list symbols len before z (Refused cause)) (sym (w.bytes ∙ afterwards_refused before _ cause _ w.number))
+    subst (λ z. Opens s list symbols len before z (Err cause)) (sym (w.bytes ∙ afterwards_refused before _ cause _ w.number))
     (opens_refused s list symbols len before cause (rw able.whole at w.number ∙ sym (able.then _)))

@@ -3,8 +3,7 @@ use Rattle.std.specs.Prelude.{◌≡◌, ◌⊎◌, Bool, true, false, List, ℕ
 use Rattle.lists.specs.Lists.{member, rising}
 use Rattle.shape.specs.declared.Shape.{Shape}
 use Rattle.shape.specs.Shape.{size}
-use Rattle.shape.specs.Refusals.{shape_bad, answer_number, afterwards}
-use Rattle.shape.specs.declared.Answer.{Answer}
+use Rattle.shape.specs.Refusals.{shape_bad, answer_number, afterwards, Answer}
 use Rattle.rows.specs.Rows.{most_places}
 use Rattle.code.specs.Code.{narrow}
 use Rattle.code.specs.Archive.{data_of}

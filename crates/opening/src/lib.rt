@@ -2,7 +2,7 @@
 // the k listed ones at their place, each times a multiplier of its a, which serves all layers (document 02, §4).
 #![tactic(auto)]
 
-ghost use Rattle.std.specs.Prelude.{◌≡◌, true, false, List, ℕ, ◌+◌, ◌*◌, ◌^◌, ◌≤◌, ◌<◌, length, get_or};
+ghost use Rattle.std.specs.Prelude.{◌≡◌, true, false, List, ℕ, ◌+◌, ◌*◌, ◌^◌, ◌≤◌, ◌<◌, length, IfSome, get_or};
 ghost use Rattle.lists.specs.Lists.{element};
 ghost use Rattle.shape.specs.declared.Shape.{Shape};
 ghost use Rattle.shape.specs.Shape.{size, byte_values};
@@ -12,7 +12,7 @@ ghost use Rattle.code.specs.Refusals.{open_input_refusal};
 ghost use Rattle.code.specs.Promises.{Opens};
 ghost use Rattle.rows.specs.Rows.{most_places, Low, Stored};
 ghost use Rattle.tables.specs.Tables.{table_size, Marks};
-ghost use Rattle.patterns.specs.Patterns.{patterns, Represented};
+ghost use Rattle.patterns.specs.Patterns.{Represented};
 ghost use Rattle.filling.specs.Filling.{InRun};
 ghost use Rattle.opening.specs.Steps.{Readable, Factors, MissingRow, BeforeEnd, RowFits, opened, Walked, OneOf, OfListed, AtRun, AtLayer, Missing, AllData, AllListed, OpenedAll};
 
@@ -21,44 +21,42 @@ use filling::{run_of, sum_row};
 use patterns::{pays, represent};
 use picking::run_multipliers;
 use rows::{RUN, store};
-use shape::{
-    Answer, BYTE_VALUES, MODULUS, Refusal, Shape, nodes_bad, shape_bad, size, symbol_bad, two_to,
-};
+use shape::{BYTE_VALUES, MODULUS, Refusal, Shape, nodes_bad, shape_bad, size, symbol_bad, two_to};
 use tables::{FLAGS, TABLE, marks};
 
 // Causes 1, 2, 4 and 5 of opening into a buffer of `room` bytes, in this order.
-fn judge_open(s: Shape, list: &[usize], symbols: &[u16], len: usize, room: usize) -> Answer
+fn judge_open(
+    s: Shape,
+    list: &[usize],
+    symbols: &[u16],
+    len: usize,
+    room: usize,
+) -> Result<(), Refusal>
     ensures { answer_number result ≡ open_input_refusal narrow s list.now symbols.now len room 0 }
 {
     if shape_bad(s) {
-        return Answer::Refused(Refusal::BadShape);
+        return Err(Refusal::BadShape);
     }
     let n = s.n;
     let k = s.k;
     if nodes_bad(n, k, list) {
-        return Answer::Refused(Refusal::BadNodes);
+        return Err(Refusal::BadNodes);
     }
     let due = k * size(s);
     if (symbols.len() != due) | (due < len) | (room != len) {
-        return Answer::Refused(Refusal::WrongLength);
+        return Err(Refusal::WrongLength);
     }
     if symbol_bad(MODULUS, symbols) {
-        return Answer::Refused(Refusal::BadSymbol);
+        return Err(Refusal::BadSymbol);
     }
-    Answer::Done
+    Ok(())
 }
 
 // How many of `count` places from `at` on lie before the end.
 fn before_end(end: usize, at: usize, count: usize) -> usize
     ensures { BeforeEnd end at count result }
 {
-    if end <= at {
-        return 0;
-    }
-    if end - at < count {
-        return end - at;
-    }
-    count
+    end.saturating_sub(at).min(count)
 }
 
 // Whether a row of data symbols may stand from `at` on: not "a data symbol within the length is 256, or one beyond it is not 0".
@@ -70,13 +68,16 @@ fn row_fits(len: usize, at: usize, row: &[u16]) -> bool
     !(symbol_bad(BYTE_VALUES, &row[..within]) | symbol_bad(1, &row[within..count]))
 }
 
-// A row of data symbols stored as bytes, from `at` on.
+// A row of data symbols stored as bytes, from `at` on. Where the row is empty, `at` may lie past the transcript.
 fn store_bytes(row: &[u16], at: usize, transcript: &mut [u8])
     requires { (t : ℕ) → t < length row.now → (at + t < length transcript.old) × (get_or row.now t 0 < byte_values) }
     ensures { Stored at (length row.now) (element row.now) transcript.old transcript.new }
 {
-    for t in 0..row.len() {
-        transcript[at + t] = row[t] as u8;
+    if row.is_empty() {
+        return;
+    }
+    for (t, byte) in transcript[at..at + row.len()].iter_mut().enumerate() {
+        *byte = row[t] as u8;
     }
 }
 
@@ -106,8 +107,7 @@ fn open_listed(
     ensures { Walked (opened s list.now symbols.now) len room (OneOf s.k (OfListed s list.now)) transcript.old transcript.new result }
 {
     let each = size(s);
-    for j in 0..list.len() {
-        let node = list[j];
+    for (j, &node) in list.iter().enumerate() {
         if s.k <= node {
             continue;
         }
@@ -177,22 +177,21 @@ fn open_layers(
     run: usize,
     list: &[usize],
     marked: [bool; FLAGS],
-    few: bool,
-    source: &[u16],
+    source: Option<&[u16]>,
     table: &mut [u16],
     symbols: &[u16],
     len: usize,
     room: usize,
     transcript: &mut [u8],
 ) -> bool
-    requires { Readable s list.now symbols.now × Marks s.n list.now marked × (few ≡ true → Represented s.n marked list.now s.k source.now) × (run ≤ most_places) × (a + run ≤ 2 ^ s.n) × (length table.old ≡ table_size) × Low narrow.modulus table.old × (room ≤ len) × (room ≤ length transcript.old) }
+    requires { Readable s list.now symbols.now × Marks s.n list.now marked × IfSome source (λ few. Represented s.n marked list.now s.k few.now) × (run ≤ most_places) × (a + run ≤ 2 ^ s.n) × (length table.old ≡ table_size) × Low narrow.modulus table.old × (room ≤ len) × (room ≤ length transcript.old) }
     ensures { (length table.new ≡ table_size) × Low narrow.modulus table.new × Walked (opened s list.now symbols.now) len room (OneOf s.layers (AtLayer s list.now run a)) transcript.old transcript.new result }
 {
     let n = s.n;
     let k = s.k;
     let layers = s.layers;
     let two = two_to(n);
-    run_multipliers(n, k, a, run, list, marked, few, source, table);
+    run_multipliers(n, k, a, run, list, marked, source, table);
     for layer in 0..layers {
         if !open_run(
             s,
@@ -217,14 +216,13 @@ fn open_runs(
     s: Shape,
     list: &[usize],
     marked: [bool; FLAGS],
-    few: bool,
-    source: &[u16],
+    source: Option<&[u16]>,
     symbols: &[u16],
     len: usize,
     room: usize,
     transcript: &mut [u8],
 ) -> bool
-    requires { Readable s list.now symbols.now × Marks s.n list.now marked × (few ≡ true → Represented s.n marked list.now s.k source.now) × (room ≤ len) × (room ≤ length transcript.old) }
+    requires { Readable s list.now symbols.now × Marks s.n list.now marked × IfSome source (λ few. Represented s.n marked list.now s.k few.now) × (room ≤ len) × (room ≤ length transcript.old) }
     ensures { Walked (opened s list.now symbols.now) len room (Missing s list.now) transcript.old transcript.new result }
 {
     let n = s.n;
@@ -238,7 +236,6 @@ fn open_runs(
             run,
             list,
             marked,
-            few,
             source,
             &mut table,
             symbols,
@@ -257,20 +254,19 @@ fn walk(
     s: Shape,
     list: &[usize],
     marked: [bool; FLAGS],
-    few: bool,
-    source: &[u16],
+    source: Option<&[u16]>,
     symbols: &[u16],
     len: usize,
     room: usize,
     transcript: &mut [u8],
 ) -> bool
-    requires { Readable s list.now symbols.now × Marks s.n list.now marked × (few ≡ true → Represented s.n marked list.now s.k source.now) × (room ≤ len) × (room ≤ length transcript.old) }
+    requires { Readable s list.now symbols.now × Marks s.n list.now marked × IfSome source (λ few. Represented s.n marked list.now s.k few.now) × (room ≤ len) × (room ≤ length transcript.old) }
     ensures { Walked (opened s list.now symbols.now) len room (AllData s) transcript.old transcript.new result }
 {
     if !open_listed(s, list, symbols, len, room, transcript) {
         return false;
     }
-    open_runs(s, list, marked, few, source, symbols, len, room, transcript)
+    open_runs(s, list, marked, source, symbols, len, room, transcript)
 }
 
 // Cause 7 judged first, with nothing stored; then the bytes of the transcript.
@@ -278,38 +274,19 @@ fn judge_and_store(
     s: Shape,
     list: &[usize],
     marked: [bool; FLAGS],
-    few: bool,
-    source: &[u16],
+    source: Option<&[u16]>,
     symbols: &[u16],
     transcript: &mut [u8],
-) -> Answer
-    requires { (open_input_refusal narrow s list.now symbols.now (length transcript.old) (length transcript.old) 0 ≡ 0) × Marks s.n list.now marked × (few ≡ true → Represented s.n marked list.now s.k source.now) }
+) -> Result<(), Refusal>
+    requires { (open_input_refusal narrow s list.now symbols.now (length transcript.old) (length transcript.old) 0 ≡ 0) × Marks s.n list.now marked × IfSome source (λ few. Represented s.n marked list.now s.k few.now) }
     ensures { OpenedAll s list.now symbols.now transcript.old transcript.new result }
 {
     let len = transcript.len();
-    if !walk(s, list, marked, few, source, symbols, len, 0, transcript) {
-        return Answer::Refused(Refusal::NoTranscript);
+    if !walk(s, list, marked, source, symbols, len, 0, transcript) {
+        return Err(Refusal::NoTranscript);
     }
-    walk(s, list, marked, few, source, symbols, len, len, transcript);
-    Answer::Done
-}
-
-// Likewise, with few multipliers worked out first, to pick from.
-fn open_from_few(
-    s: Shape,
-    list: &[usize],
-    marked: [bool; FLAGS],
-    symbols: &[u16],
-    transcript: &mut [u8],
-) -> Answer
-    requires { (open_input_refusal narrow s list.now symbols.now (length transcript.old) (length transcript.old) 0 ≡ 0) × Marks s.n list.now marked × (patterns marked s.n ≤ most_places) }
-    ensures { OpenedAll s list.now symbols.now transcript.old transcript.new result }
-{
-    let n = s.n;
-    let k = s.k;
-    let mut source = [0u16; TABLE];
-    represent(n, k, list, marked, &mut source);
-    judge_and_store(s, list, marked, true, &source, symbols, transcript)
+    walk(s, list, marked, source, symbols, len, len, transcript);
+    Ok(())
 }
 
 // Whether the k listed nodes are the data nodes themselves.
@@ -322,20 +299,25 @@ fn all_data(list: &[usize]) -> bool
 }
 
 // Cause 7, and the bytes, where they are: a judgement and a copy.
-fn copy_data(symbols: &[u16], transcript: &mut [u8]) -> Answer
+fn copy_data(symbols: &[u16], transcript: &mut [u8]) -> Result<(), Refusal>
     requires { length transcript.old ≤ length symbols.now }
     ensures { (s : Shape) (list : List ℕ) → open_input_refusal narrow s list symbols.now (length transcript.old) (length transcript.old) 0 ≡ 0 → AllListed list → OpenedAll s list symbols.now transcript.old transcript.new result }
 {
     let len = transcript.len();
     if !row_fits(len, 0, symbols) {
-        return Answer::Refused(Refusal::NoTranscript);
+        return Err(Refusal::NoTranscript);
     }
     store_bytes(&symbols[..len], 0, transcript);
-    Answer::Done
+    Ok(())
 }
 
 // Cause 7, and the bytes, by multipliers picked from few where that pays.
-fn open_data(s: Shape, list: &[usize], symbols: &[u16], transcript: &mut [u8]) -> Answer
+fn open_data(
+    s: Shape,
+    list: &[usize],
+    symbols: &[u16],
+    transcript: &mut [u8],
+) -> Result<(), Refusal>
     requires { open_input_refusal narrow s list.now symbols.now (length transcript.old) (length transcript.old) 0 ≡ 0 }
     ensures { OpenedAll s list.now symbols.now transcript.old transcript.new result }
 {
@@ -343,20 +325,26 @@ fn open_data(s: Shape, list: &[usize], symbols: &[u16], transcript: &mut [u8]) -
         return copy_data(symbols, transcript);
     }
     let n = s.n;
+    let k = s.k;
     let marked = marks(n, list);
-    if pays(n, marked) {
-        return open_from_few(s, list, marked, symbols, transcript);
+    if !pays(n, marked) {
+        return judge_and_store(s, list, marked, None, symbols, transcript);
     }
-    let none = [0u16; 1];
-    judge_and_store(s, list, marked, false, &none, symbols, transcript)
+    let mut few = [0u16; TABLE];
+    represent(n, k, list, marked, &mut few);
+    judge_and_store(s, list, marked, Some(&few), symbols, transcript)
 }
 
 // The transcript of `len` bytes from any k nodes.
-pub fn open(s: Shape, list: &[usize], symbols: &[u16], len: usize, transcript: &mut [u8]) -> Answer
+pub fn open(
+    s: Shape,
+    list: &[usize],
+    symbols: &[u16],
+    len: usize,
+    transcript: &mut [u8],
+) -> Result<(), Refusal>
     ensures { Opens s list.now symbols.now len transcript.old transcript.new result }
 {
-    match judge_open(s, list, symbols, len, transcript.len()) {
-        Answer::Refused(cause) => Answer::Refused(cause),
-        Answer::Done => open_data(s, list, symbols, transcript),
-    }
+    judge_open(s, list, symbols, len, transcript.len())?;
+    open_data(s, list, symbols, transcript)
 }

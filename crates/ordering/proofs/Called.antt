@@ -14,10 +14,9 @@ use Rattle.lists.proofs.Members.{member_of, at_position, rising_below}
 use Rattle.lists.proofs.Flats.{flat_length, flat_piece, piece_length}
 use Rattle.lists.proofs.Parts.{row_within}
 use Rattle.shape.specs.declared.Shape.{Shape}
-use Rattle.shape.specs.declared.Answer.{Answer}
-use Rattle.shape.specs.declared.Answer.TheVariants.{Done}
+use Rattle.std.specs.Prelude.{Ok}
 use Rattle.shape.specs.Shape.{size}
-use Rattle.shape.specs.Refusals.{wrong_length, symbol_bad}
+use Rattle.shape.specs.Refusals.{wrong_length, symbol_bad, Answer}
 use Rattle.shape.proofs.Accepted.{Repairable, repair_accepted}
 use Rattle.shape.proofs.Answers.{number_only, afterwards_done}
 use Rattle.rows.specs.Rows.{Low}
@@ -88,12 +87,12 @@ module _ (s : Shape) (dead helpers numbers nodes : List ℕ) (room : ℕ) (z : o
   pub helper_called : (x : ℕ) → x < length (pairs numbers) → member (at (pairs numbers) x).sender helpers ≡ true
       → (before after : List ℕ) (answer : Answer) → length before ≡ message_size s dead
       → HelperMessage s dead helpers (at (pairs numbers) x).sender (at (pairs numbers) x).receiver (piece (size s) (at (pairs numbers) x).sender nodes) before after answer
-      → (answer ≡ Done) × (after ≡ sends narrow s dead helpers nodes (run narrow s dead helpers nodes [] (take x (pairs numbers))) (at (pairs numbers) x))
+      → (answer ≡ Ok tt) × (after ≡ sends narrow s dead helpers nodes (run narrow s dead helpers nodes [] (take x (pairs numbers))) (at (pairs numbers) x))
   unfolding sends
   helper_called x h m before after answer long p =
       let t = at (pairs numbers) x in
       let free = ap (message_refusal narrow s dead helpers t.sender t.receiver (piece (size s) t.sender nodes)) long ∙ message_free _ _ m (receiver_dead x h) in
-      (number_only answer Done (p.number ∙ free), p.message ∙ afterwards_done before _ _ free ∙ sym (cond_true _ _ _ m))
+      (number_only answer (Ok tt) (p.number ∙ free), p.message ∙ afterwards_done before _ _ free ∙ sym (cond_true _ _ _ m))
 
   -- ---- a dead node
 
@@ -119,12 +118,12 @@ module _ (s : Shape) (dead helpers numbers nodes : List ℕ) (room : ℕ) (z : o
   first_at : (i : ℕ) → member i dead ≡ true → (messages : List ℕ) → messages ≡ from_helpers narrow s dead helpers nodes (position i dead)
       → (own sums own_after sums_after : List ℕ) (answer : Answer) → length own ≡ 2 * M → length sums ≡ (length dead - 1) * M
       → FirstStep s dead helpers i messages own sums own_after sums_after answer
-      → (answer ≡ Done) × (own_after ≡ own_pairs narrow s dead helpers (position i dead) messages) × (sums_after ≡ exchanges narrow s dead helpers (position i dead) messages)
+      → (answer ≡ Ok tt) × (own_after ≡ own_pairs narrow s dead helpers (position i dead) messages) × (sums_after ≡ exchanges narrow s dead helpers (position i dead) messages)
   first_at i d messages e own sums own_after sums_after answer long among p =
       let free =
       ap₂ (first_step_refusal narrow s dead helpers i messages) long among
       ∙ ap (λ y. first_step_refusal narrow s dead helpers i y (2 * M) ((length dead - 1) * M)) e ∙ first_free i d in
-      (number_only answer Done (p.number ∙ free), p.own ∙ afterwards_done own _ _ free, p.sent ∙ afterwards_done sums _ _ free)
+      (number_only answer (Ok tt) (p.number ∙ free), p.own ∙ afterwards_done own _ _ free, p.sent ∙ afterwards_done sums _ _ free)
 
   -- its message to rank v
   exchange_piece : (u v : ℕ) (messages : List ℕ) → u < length dead → v < length dead → v ≢ u
@@ -153,7 +152,7 @@ module _ (s : Shape) (dead helpers numbers nodes : List ℕ) (room : ℕ) (z : o
       → (own sums own_after sums_after : List ℕ) (answer : Answer) → length own ≡ 2 * message_size s dead → length sums ≡ (length dead - 1) * message_size s dead
       → FirstStep s dead helpers (at (pairs numbers) x).sender
       (helpers_heard helpers (run narrow s dead helpers nodes [] (take x (pairs numbers))) (at (pairs numbers) x).sender) own sums own_after sums_after answer
-      → (answer ≡ Done)
+      → (answer ≡ Ok tt)
       × (piece (message_size s dead) (place (position (at (pairs numbers) x).sender dead) (position (at (pairs numbers) x).receiver dead)) sums_after
       ≡ sends narrow s dead helpers nodes (run narrow s dead helpers nodes [] (take x (pairs numbers))) (at (pairs numbers) x))
   unfolding sends node
@@ -182,7 +181,7 @@ module _ (s : Shape) (dead helpers numbers nodes : List ℕ) (room : ℕ) (z : o
   pub own_called : (u : ℕ) → u < length dead → (own sums own_after sums_after : List ℕ) (answer : Answer) → length own ≡ 2 * message_size s dead
       → length sums ≡ (length dead - 1) * message_size s dead
       → FirstStep s dead helpers (node dead u) (helpers_heard helpers (run narrow s dead helpers nodes [] (pairs numbers)) (node dead u)) own sums own_after sums_after answer
-      → (answer ≡ Done)
+      → (answer ≡ Ok tt)
       × (own_after ≡ own_pairs narrow s dead helpers u (helpers_heard helpers (run narrow s dead helpers nodes [] (pairs numbers)) (node dead u)))
   own_called u l own sums own_after sums_after answer long among p =
       let back = node_position (dead_of A) u l in
@@ -217,7 +216,7 @@ module _ (s : Shape) (dead helpers numbers nodes : List ℕ) (room : ℕ) (z : o
       → SecondStep s dead helpers (node dead u)
       (own_pairs narrow s dead helpers u (helpers_heard helpers (run narrow s dead helpers nodes [] (pairs numbers)) (node dead u)))
       (fellows_heard dead (run narrow s dead helpers nodes [] (pairs numbers)) u) before after answer
-      → (answer ≡ Done) × (after ≡ rebuilt narrow s dead helpers nodes (run narrow s dead helpers nodes [] (pairs numbers)) u)
+      → (answer ≡ Ok tt) × (after ≡ rebuilt narrow s dead helpers nodes (run narrow s dead helpers nodes [] (pairs numbers)) u)
   unfolding rebuilt
   second_called u l before after answer long p =
       let free =
@@ -225,7 +224,7 @@ module _ (s : Shape) (dead helpers numbers nodes : List ℕ) (room : ℕ) (z : o
       ∙ ap₂ (λ a b. second_step_refusal narrow s dead helpers (node dead u) (own_pairs narrow s dead helpers u a) b (size s))
       (helpers_end narrow s dead helpers nodes R (pairs numbers) O.may u l) (fellows_end narrow s dead helpers nodes R (pairs numbers) O.may u l)
       ∙ second_free u l in (
-        number_only answer Done (p.number ∙ free),
+        number_only answer (Ok tt) (p.number ∙ free),
         p.symbols ∙ afterwards_done before _ _ free
             ∙ ap (λ y. contents narrow s dead y (own_pairs narrow s dead helpers u (helpers_heard helpers end (node dead u))) (fellows_heard dead end u)) (node_position (dead_of A) u l),
       )

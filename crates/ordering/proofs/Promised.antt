@@ -10,11 +10,10 @@ use lib.ListN.{length, get_or}
 use Rattle.lists.proofs.Tests.{true_or_false}
 use Rattle.lists.proofs.Tables.{tabulate_length, tabulate_at}
 use Rattle.shape.specs.declared.Shape.{Shape}
-use Rattle.shape.specs.declared.Answer.{Answer}
-use Rattle.shape.specs.declared.Answer.TheVariants.{Done, Refused}
+use Rattle.std.specs.Prelude.{Ok, Err}
 use Rattle.shape.specs.declared.Refusal.TheVariants.{BadOrder}
 use Rattle.shape.specs.Shape.{size}
-use Rattle.shape.specs.Refusals.{answer_number, refuse, repair_bad}
+use Rattle.shape.specs.Refusals.{answer_number, refuse, repair_bad, Answer}
 use Rattle.shape.proofs.Accepted.{passed, repair_accepted}
 use Rattle.shape.proofs.Answers.{number_only, afterwards_done}
 use Rattle.code.specs.Code.{Code, GoodCode, narrow}
@@ -92,7 +91,7 @@ module _ (s : Shape) (dead helpers numbers : List ℕ) where
   -- ---- the promise
 
   module _ (answer : Answer) (e : answer_number answer ≡ order_refusal s dead helpers numbers) where
-    done : answer ≡ Done → order_refusal s dead helpers numbers ≡ 0
+    done : answer ≡ Ok tt → order_refusal s dead helpers numbers ≡ 0
     done d = sym e ∙ ap answer_number d
 
     module _ (free : pairs_refusal s dead helpers numbers 0 ≡ 0) where
@@ -103,17 +102,17 @@ module _ (s : Shape) (dead helpers numbers : List ℕ) where
       may_done : MayRun dead helpers (pairs numbers) → answer_number answer ≡ 0
       may_done m = decided ∙ refuse_false (not answered) 13 0 (ap not (said dead helpers (pairs numbers) m))
 
-      refused : (MayRun dead helpers (pairs numbers) → ⊥) → answer ≡ Refused BadOrder
-      refused d = number_only answer (Refused BadOrder) (go (true_or_false answered))
+      refused : (MayRun dead helpers (pairs numbers) → ⊥) → answer ≡ Err BadOrder
+      refused d = number_only answer (Err BadOrder) (go (true_or_false answered))
         where
           go : (answered ≡ true) ⊎ (answered ≡ false) → answer_number answer ≡ 13
           go (inl t) = absurd (d (says dead helpers (pairs numbers) t))
           go (inr t) = decided ∙ refuse_true (not answered) 13 0 (ap not t)
 
-      not_run : answer ≡ Refused BadOrder → MayRun dead helpers (pairs numbers) → ⊥
+      not_run : answer ≡ Err BadOrder → MayRun dead helpers (pairs numbers) → ⊥
       not_run d m = omega (arith, ap answer_number d, may_done m)
 
-    accepted_leaves : answer ≡ Done → (nodes nodes_after wires wires_after : List ℕ) → Repaired s dead helpers nodes nodes_after wires wires_after Done
+    accepted_leaves : answer ≡ Ok tt → (nodes nodes_after wires wires_after : List ℕ) → Repaired s dead helpers nodes nodes_after wires wires_after (Ok tt)
         → ran narrow s dead helpers nodes (pairs numbers) ≡ nodes_after
     accepted_leaves d nodes nodes_after wires wires_after p =
         runs_as_repair narrow nodes (done d) ∙ sym (p.restored ∙ afterwards_done nodes (repaired narrow s dead helpers nodes) _ (sym p.number))
@@ -122,7 +121,7 @@ module _ (s : Shape) (dead helpers numbers : List ℕ) where
     pub orders : Orders s dead helpers numbers answer
     orders = record {
       number = e;
-      yes = λ free. (λ d. (order_accepted (done d)).may, λ m. number_only answer Done (may_done free m));
+      yes = λ free. (λ d. (order_accepted (done d)).may, λ m. number_only answer (Ok tt) (may_done free m));
       no = λ free. (not_run free, refused free);
       runs = λ d nodes. runs_as_repair narrow nodes (done d);
       leaves = accepted_leaves;

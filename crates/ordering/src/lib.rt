@@ -10,7 +10,7 @@ ghost use Rattle.ordering.specs.Following.{in_plan, by_table, sent_to, may_follo
 ghost use Rattle.ordering.specs.Promises.{Orders};
 
 use judging::judge_lists;
-use shape::{Answer, MOST_NODES, Refusal, Shape, listed};
+use shape::{MOST_NODES, Refusal, Shape, listed};
 
 // Whether node i has sent to node j, for every two nodes, at i × MOST_NODES + j.
 const TABLE: usize = MOST_NODES * MOST_NODES;
@@ -28,12 +28,10 @@ fn all_sent(helpers: &[usize], sent: &[bool; TABLE], node: usize) -> bool
     requires { Nodes helpers.now × (node < most_nodes) }
     ensures { result ≡ all (sent_to (by_table sent.now) node) helpers.now }
 {
-    let mut j = 0;
-    while j < helpers.len() {
-        if !sent[helpers[j] * MOST_NODES + node] {
+    for &helper in helpers {
+        if !sent[helper * MOST_NODES + node] {
             return false;
         }
-        j += 1;
     }
     true
 }
@@ -74,34 +72,34 @@ fn runs(s: Shape, dead: &[usize], helpers: &[usize], numbers: &[usize]) -> bool
         return false;
     }
     let mut sent = [false; TABLE];
-    let mut x = 0;
-    while x < count {
+    for x in 0..count {
         let sender = numbers[x * 2];
         let receiver = numbers[x * 2 + 1];
         if !may_follow(dead, helpers, &sent, sender, receiver) {
             return false;
         }
         sent[sender * MOST_NODES + receiver] = true;
-        x += 1;
     }
     true
 }
 
 // Whether the transfers may run in the order of the list, sender then receiver; judged 1, 2, 3, 4, 13.
-pub fn may_run(s: Shape, dead: &[usize], helpers: &[usize], numbers: &[usize]) -> Answer
+pub fn may_run(
+    s: Shape,
+    dead: &[usize],
+    helpers: &[usize],
+    numbers: &[usize],
+) -> Result<(), Refusal>
     ensures { Orders s dead.now helpers.now numbers.now result }
 {
-    let lists = judge_lists(s, dead, helpers, false);
-    let Answer::Done = lists else {
-        return lists;
-    };
+    judge_lists(s, dead, helpers, false)?;
     let odd = numbers.len() % 2 != 0;
     let yes = runs(s, dead, helpers, numbers);
     if odd {
-        return Answer::Refused(Refusal::WrongLength);
+        return Err(Refusal::WrongLength);
     }
     if !yes {
-        return Answer::Refused(Refusal::BadOrder);
+        return Err(Refusal::BadOrder);
     }
-    Answer::Done
+    Ok(())
 }

@@ -9,7 +9,7 @@ ghost use Rattle.classes.specs.Classes.{message_size};
 ghost use Rattle.classes.specs.Layout.{Ready};
 ghost use Rattle.solving.specs.Solving.{Helped, FirstDone, Multiplied, HandedOut, Owned, pair_place};
 
-use classes::{FEW, Layout, MEMBERS, class_size, list_members, rank_class};
+use classes::{Layout, list_members, rank_class, with_table};
 use rows::{RUN, run_from};
 use solving::{gather, hand_out, put_entry, run_table};
 use tables::TABLE;
@@ -18,11 +18,7 @@ use tables::TABLE;
 fn doubled() -> [usize; RUN]
     ensures { (length result ≡ most_places) × ((t : ℕ) → t < most_places → element result t ≡ t * 2) }
 {
-    let mut out = [0usize; RUN];
-    for t in 0..RUN {
-        out[t] = t * 2;
-    }
-    out
+    std::array::from_fn(|t| t * 2)
 }
 
 // The first step at a run of sums.
@@ -102,9 +98,10 @@ fn first_with(
     ensures { FirstDone g.shape dead.now helpers.now u messages.now pairs.new sums.new }
 {
     list_members(g, dead, rank_class(g, dead, u), class);
-    let size = class_size(g, dead);
+    let size = g.members;
     let mut table = [0u16; TABLE];
     let mut first = 0;
+    // The step is the run's length.
     while first < size {
         let run = run_from(size, first);
         run_table(g, dead, helpers, u, class, first, run, &mut table);
@@ -129,11 +126,8 @@ pub fn first_into(
     requires pairs_len { (length pairs.old ≡ 2 * message_size g.shape dead.now) × (length sums.old ≡ (length dead.now - 1) * message_size g.shape dead.now) }
     ensures { FirstDone g.shape dead.now helpers.now u messages.now pairs.new sums.new }
 {
-    if g.places <= FEW {
-        let mut few = [0u16; FEW];
-        first_with(g, dead, helpers, u, &mut few, messages, pairs, sums);
-    } else {
-        let mut table = [0u16; MEMBERS];
-        first_with(g, dead, helpers, u, &mut table, messages, pairs, sums);
-    }
+    with_table(
+        g.places,
+        &mut |class| first_with(g, dead, helpers, u, class, messages, pairs, sums),
+    );
 }

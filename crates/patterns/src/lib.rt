@@ -30,8 +30,8 @@ pub fn count(n: usize, marked: [bool; FLAGS]) -> usize
     ensures { result ≡ patterns marked n }
 {
     let mut out = 1;
-    for i in 0..n {
-        if marked[i] {
+    for &listed in marked[..n].iter() {
+        if listed {
             continue;
         }
         out = 2 * out;
@@ -62,15 +62,13 @@ fn number_of(n: usize, marked: [bool; FLAGS], pattern: usize) -> usize
 {
     let mut rest = pattern;
     let mut out = 0;
-    let mut i = n;
-    while 0 < i {
-        i -= 1;
+    for i in (0..n).rev() {
         if marked[i] {
             out = 2 * out;
             continue;
         }
         out = 2 * out + rest % 2;
-        rest = rest / 2;
+        rest /= 2;
     }
     out
 }
@@ -81,8 +79,8 @@ fn numbers_of(n: usize, marked: [bool; FLAGS], count: usize) -> [usize; RUN]
     ensures { (length result ≡ most_places) × ((p : ℕ) → p < count → Stands n marked p (element result p)) }
 {
     let mut out = [0usize; RUN];
-    for p in 0..count {
-        out[p] = number_of(n, marked, p);
+    for (p, number) in out[..count].iter_mut().enumerate() {
+        *number = number_of(n, marked, p);
     }
     out
 }
@@ -102,8 +100,8 @@ fn lengthen(node: usize, a: usize, run: usize, row: &mut [u16; RUN])
     requires { (node < most_nodes) × (run ≤ most_places) × (a + run ≤ 2 ^ most_nodes) × (length row.old ≡ most_places) × ((t : ℕ) → t < run → get_or row.old t 0 < 2 ^ most_nodes) }
     ensures { Stored 0 run (lengthened a node row.old) row.old row.new }
 {
-    for t in 0..run {
-        row[t] = 2 * row[t] + bit((a + t) as u16, node);
+    for (t, pattern) in row[..run].iter_mut().enumerate() {
+        *pattern = 2 * *pattern + bit((a + t) as u16, node);
     }
 }
 

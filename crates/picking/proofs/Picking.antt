@@ -17,14 +17,14 @@ use Rattle.shape.specs.Shape.{most_nodes}
 use Rattle.code.specs.Code.{narrow, base_point, point, points, GoodCode}
 use Rattle.code.proofs.NodePoints.{good_fewer, points_length, points_at, points_good}
 use Rattle.code.proofs.Narrow.{narrow_good}
-use Rattle.rows.specs.Rows.{most_places, Low, Stored}
+use Rattle.rows.specs.Rows.{most_places, Stored}
 use Rattle.rows.proofs.Rows.{stored_low}
 use Rattle.multipliers.specs.Multipliers.{multiplier}
 use Rattle.multipliers.proofs.Multipliers.{multiplier_ext}
 use Rattle.multipliers.proofs.Opposites.{multiplier_opposite}
 use Rattle.tables.specs.Tables.{MultiplierRow, NodeRows}
 use Rattle.patterns.specs.Patterns.{pattern, patterns, Stands}
-use Rattle.picking.specs.Picking.{looked_up, looked_at, LookedUp, looked_size, picked, Pickable}
+use Rattle.picking.specs.Picking.{looked_up, looked_at, LookedUp, picked, Pickable}
 use Rattle.patterns.proofs.Patterns.{pattern_lt, turned_bit, pattern_turned}
 
 abbrev q : ℕ
@@ -148,9 +148,6 @@ module _ (n m a run : ℕ) (list : List ℕ) (marked : List Bool) (picks : List 
         go false e = rw e (opposite (let z : bit node (a + t) ≢ 0 = eqb-false _ _ e in omega (arith, z, bit_lt node (a + t))))
 
   module _ (looked : List ℕ) (v : LookedUp a run list picks last (length list) looked) (i : ℕ) (within : i < m) (u : member i list ≡ false) where
-    pub picks_none : (before : List ℕ) → NodeRows n (◌+◌ a) run list i 0 before before
-    picks_none before = record { low = λ l. l; kept = λ e h. refl; made = λ j h. absurd (omega arith) }
-
     pub picks_more : (j : ℕ) (before now after : List ℕ) → run ≤ most_places → j < length list → NodeRows n (◌+◌ a) run list i j before now
         → Stored ((i * length list + j) * most_places) run (picked looked (j * most_places) source ((i * length list + j) * most_places)) now after
         → NodeRows n (◌+◌ a) run list i (j + 1) before after
@@ -172,9 +169,6 @@ module _ (n m a run : ℕ) (list : List ℕ) (marked : List Bool) (picks : List 
 -- ---- a row of patterns more
 
 module _ (a run : ℕ) (list picks : List ℕ) (last : ℕ) (few : run ≤ most_places) (top : last < most_places) (under : (t : ℕ) → t < run → get_or picks t 0 ≤ last) where
-  pub looked_none : (looked : List ℕ) → length looked ≡ looked_size → Low most_places looked → LookedUp a run list picks last 0 looked
-  looked_none looked long low = record { long = long; low = low; each = λ j t h. absurd (omega arith) }
-
   -- none is beyond the last
   looked_low : (node t : ℕ) → t < run → looked_at a node picks last t < most_places
   unfolding looked_at looked_up

@@ -2,7 +2,7 @@
 // the opposite ones.
 #![tactic(auto)]
 
-ghost use Rattle.std.specs.Prelude.{◌≡◌, Bool, true, false, List, ℕ, ◌+◌, ◌*◌, ◌^◌, ◌<◌, ◌≤◌, length, get_or};
+ghost use Rattle.std.specs.Prelude.{◌≡◌, Bool, true, false, List, ℕ, ◌+◌, ◌*◌, ◌^◌, ◌<◌, ◌≤◌, length, IfSome, get_or};
 ghost use Rattle.lists.specs.Lists.{member, rising};
 ghost use Rattle.shape.specs.Shape.{most_nodes};
 ghost use Rattle.code.specs.Code.{narrow};
@@ -40,8 +40,8 @@ fn look_up_row(
     requires { (node < most_nodes) × (a + run ≤ 2 ^ most_nodes) × (run ≤ length picks.now) × ((t : ℕ) → t < run → get_or picks.now t 0 ≤ last) × (last < most_places) × (at + run ≤ length out.old) }
     ensures { Stored at run (looked_at a node picks.now last) out.old out.new }
 {
-    for t in 0..run {
-        out[at + t] = looked_up(bit((a + t) as u16, node), picks[t], last as u16);
+    for (t, looked) in out[at..at + run].iter_mut().enumerate() {
+        *looked = looked_up(bit((a + t) as u16, node), picks[t], last as u16);
     }
 }
 
@@ -50,8 +50,8 @@ fn look_up_rows(a: usize, run: usize, list: &[usize], picks: &[u16], last: usize
     requires { ((j : ℕ) → j < length list.now → get_or list.now j 0 < most_nodes) × (length list.now ≤ most_nodes) × (run ≤ most_places) × (a + run ≤ 2 ^ most_nodes) × (run ≤ length picks.now) × ((t : ℕ) → t < run → get_or picks.now t 0 ≤ last) × (last < most_places) × (length out.old ≡ looked_size) × Low most_places out.old }
     ensures { LookedUp a run list.now picks.now last (length list.now) out.new }
 {
-    for j in 0..list.len() {
-        look_up_row(list[j], a, run, picks, last, j * RUN, out);
+    for (j, &node) in list.iter().enumerate() {
+        look_up_row(node, a, run, picks, last, j * RUN, out);
     }
 }
 
@@ -60,8 +60,8 @@ fn pick_row(run: usize, looked: &[u16], row: usize, source: &[u16], at: usize, t
     requires { (row + run ≤ length looked.now) × ((t : ℕ) → t < run → at + get_or looked.now (row + t) 0 < length source.now) × (at + run ≤ length table.old) }
     ensures { Stored at run (picked looked.now row source.now at) table.old table.new }
 {
-    for t in 0..run {
-        table[at + t] = source[at + looked[row + t] as usize];
+    for (t, element) in table[at..at + run].iter_mut().enumerate() {
+        *element = source[at + usize::from(looked[row + t])];
     }
 }
 
@@ -118,16 +118,14 @@ pub fn run_multipliers(
     run: usize,
     list: &[usize],
     marked: [bool; FLAGS],
-    few: bool,
-    source: &[u16],
+    source: Option<&[u16]>,
     table: &mut [u16],
 )
-    requires { (n ≤ most_nodes) × (m ≤ n) × (run ≤ most_places) × (a + run ≤ 2 ^ n) × (rising 0 n list.now ≡ true) × Marks n list.now marked × (few ≡ true → Represented n marked list.now m source.now) × (length table.old ≡ table_size) × Low narrow.modulus table.old }
+    requires { (n ≤ most_nodes) × (m ≤ n) × (run ≤ most_places) × (a + run ≤ 2 ^ n) × (rising 0 n list.now ≡ true) × Marks n list.now marked × IfSome source (λ few. Represented n marked list.now m few.now) × (length table.old ≡ table_size) × Low narrow.modulus table.old }
     ensures { Table n a run list.now m table.new }
 {
-    if few {
-        pick(n, m, a, run, list, marked, source, table);
-        return;
+    match source {
+        Some(few) => pick(n, m, a, run, list, marked, few, table),
+        None => multipliers(n, m, a, run, list, marked, table),
     }
-    multipliers(n, m, a, run, list, marked, table);
 }

@@ -16,8 +16,7 @@ use Rattle.shape.specs.declared.Refusal.TheVariants as refusal
 use Rattle.shape.specs.Refusals.{number_of}
 use Rattle.shape.proofs.Answers.{number_positive}
 use Rattle.numbers.specs.Numbers.{Numbers, values, broken, read_numbers}
-use Rattle.plan.specs.declared.Behind.{Behind}
-use Rattle.plan.specs.declared.Behind.TheVariants as behind
+use Rattle.std.specs.Prelude.{Option, Some, None}
 use Rattle.transfers.specs.Plan.{line, plan_text, text_or, left_over, lists_number, with_nodes, with_lists, shape_number, with_shape, with_front, front_count, printed}
 use Rattle.transfers.specs.Promises.{Puts}
 use Rattle.plan.specs.Promises.{numbers_of}
@@ -62,12 +61,12 @@ left_is bytes next = go (below_or_not next (length bytes))
     go (inl l) = rw (ne_eqb (length (drop next bytes)) 0 (λ e. omega (arith, length-drop next bytes)), lt-ltb next (length bytes) l)
     go (inr l) = rw (eq-eqb (length (drop next bytes)) 0 (omega (arith, length-drop next bytes)), le-ltb next (length bytes) l)
 
-module _ (n : Numbers) (bytes nodes : List ℕ) (r : Behind) (q : n ≡ numbers_of bytes nodes r) where
-  pub read_bad : r ≡ behind.Malformed → n ≡ broken
+module _ (n : Numbers) (bytes nodes : List ℕ) (r : Option ℕ) (q : n ≡ numbers_of bytes nodes r) where
+  pub read_bad : r ≡ None → n ≡ broken
   unfolding numbers_of
   read_bad e = q ∙ ap (numbers_of bytes nodes) e
 
-  pub read_good : (next : ℕ) → r ≡ behind.At next → n ≡ values nodes (drop next bytes)
+  pub read_good : (next : ℕ) → r ≡ Some next → n ≡ values nodes (drop next bytes)
   unfolding numbers_of
   read_good next e = q ∙ ap (numbers_of bytes nodes) e
 

@@ -1,4 +1,6 @@
 -- The promise of the call: a buffer that is too short, and one that is not.
+use Rattle.shape.specs.declared.Refusal.{Refusal}
+use Rattle.std.specs.Prelude.{Result, Ok, Err}
 use mathlib.Core.Path.{◌≡◌, sym, ap, ◌∙◌}
 use mathlib.Core.List.{List, [], ◌∷◌}
 use Prim.Native.Nat.{ℕ, zero, suc, ◌≤◌, ◌<◌}
@@ -9,18 +11,16 @@ use lib.ListN.{length}
 use lib.Seq.{sets}
 use Rattle.lists.proofs.Writing.{sets_front}
 use Rattle.shape.specs.declared.Refusal.TheVariants as refusal
-use Rattle.shape.specs.Refusals.{afterwards}
+use Rattle.shape.specs.Refusals.{afterwards, answer_values}
 use Rattle.shape.proofs.Answers.{afterwards_done, afterwards_refused}
 use Rattle.card.specs.Promises.{over}
-use Rattle.plan.specs.declared.Planned.{Planned}
-use Rattle.plan.specs.declared.Planned.TheVariants as planned
 use Rattle.transfers.specs.Plan.{printed, plan_room}
 use Rattle.transfers.specs.Promises.{Puts}
-use Rattle.plan.specs.Promises.{planned_values, plan_refusal, Plans}
+use Rattle.plan.specs.Promises.{plan_refusal, Plans}
 use Rattle.transfers.proofs.Room.{printed_fits}
 
 module _ (input before : List ℕ) where
-  pub plans_refused : length before < plan_room → Plans input before before (planned.Refused refusal.WrongLength)
+  pub plans_refused : length before < plan_room → Plans input before before (Err refusal.WrongLength)
   plans_refused h =
       let e : 4 ≡ plan_refusal (length before) = unfold plan_refusal in rw (lt-ltb (length before) plan_room h) in
       record {
@@ -29,7 +29,7 @@ module _ (input before : List ℕ) where
         buffer = sym (afterwards_refused before _ refusal.WrongLength (plan_refusal (length before)) e);
       }
 
-  pub plans_done : {after : List ℕ} {next : ℕ} → plan_room ≤ length before → Puts (printed input) before 0 after next → Plans input before after (planned.Text next)
+  pub plans_done : {after : List ℕ} {next : ℕ} → plan_room ≤ length before → Puts (printed input) before 0 after next → Plans input before after (Ok next)
   plans_done {after} {next} h p =
       let e : plan_refusal (length before) ≡ 0 = unfold plan_refusal in rw (le-ltb (length before) plan_room h) in
       record {
@@ -42,8 +42,8 @@ module _ (input before : List ℕ) where
       front = unfold over in sets_front (printed input) before (omega (arith, printed_fits input))
 
 -- a text that is written is no longer than the buffer must be
-pub text_fits : (input before after : List ℕ) (answer : Planned) (long : ℕ) → Plans input before after answer → answer ≡ planned.Text long → long ≤ plan_room
-text_fits input before after answer long p e = go (plan_refusal (length before)) (ap planned_values (sym e) ∙ p.returned)
+pub text_fits : (input before after : List ℕ) (answer : Result ℕ Refusal) (long : ℕ) → Plans input before after answer → answer ≡ Ok long → long ≤ plan_room
+text_fits input before after answer long p e = go (plan_refusal (length before)) (ap answer_values (sym e) ∙ p.returned)
   where
     go : (number : ℕ) → long ∷ [] ≡ afterwards number [] (length (printed input) ∷ []) → long ≤ plan_room
     go zero q = unfold afterwards in (let d : long ≡ length (printed input) = cc in omega (arith, printed_fits input))

@@ -7,11 +7,10 @@ use native.Mathlib.Nat.{sub-zero}
 use native.Mathlib.Omega.{arith}
 use lib.ListN.{length, set, take, drop, length-set}
 use lib.Seq.{take-suc-set, take_all}
-use Rattle.numbers.specs.declared.Number.TheVariants.{Read, Malformed}
-use Rattle.numbers.specs.Numbers.{most_groups, then_numbers, number_at, read_numbers, numbers_by}
+use Rattle.std.specs.Prelude.{Some, None}
+use Rattle.numbers.specs.Numbers.{most_groups, read_to, then_numbers, number_at, read_numbers, numbers_by}
 use Rattle.numbers.proofs.Places.{number_bad, number_read}
 use Rattle.card.proofs.Reading.{ahead, ahead_none, ahead_one, ahead_broken, ahead_values}
-use Rattle.plan.specs.declared.Behind.TheVariants as behind
 use Rattle.plan.specs.Promises.{numbers_of}
 
 -- the first i numbers from a place on are read into a slice, and the next is at `at`
@@ -26,11 +25,11 @@ module _ {bytes : List ℕ} {start : ℕ} {old now : List ℕ} {i at : ℕ} (w :
   one_more : i < length now → length old - i ≡ suc (length old - (i + 1))
   one_more h = omega (arith, w.long)
 
-  pub reading_bad : i < length now → number_at most_groups bytes at ≡ Malformed → read_numbers (length old) (drop start bytes) ≡ numbers_of bytes now behind.Malformed
+  pub reading_bad : i < length now → number_at most_groups bytes at ≡ None → read_numbers (length old) (drop start bytes) ≡ numbers_of bytes now None
   unfolding numbers_by then_numbers numbers_of
   reading_bad h e = w.whole ∙ rw (one_more h, number_bad most_groups bytes at e) (ahead_broken (take i now))
 
-  pub reading_next : {v next : ℕ} → i < length now → number_at most_groups bytes at ≡ Read v next → Reading bytes start old (set now i v) (i + 1) next
+  pub reading_next : {v next : ℕ} → i < length now → number_at most_groups bytes at ≡ read_to v next → Reading bytes start old (set now i v) (i + 1) next
   unfolding numbers_by then_numbers
   reading_next {v} {next} h e = record {
     long = length-set now i v ∙ w.long;
@@ -40,6 +39,6 @@ module _ {bytes : List ℕ} {start : ℕ} {old now : List ℕ} {i at : ℕ} (w :
         (ahead_one (take i now) v (read_numbers (length old - suc i) (drop next bytes)));
   }
 
-  pub reading_end : length now ≤ i → read_numbers (length old) (drop start bytes) ≡ numbers_of bytes now (behind.At at)
+  pub reading_end : length now ≤ i → read_numbers (length old) (drop start bytes) ≡ numbers_of bytes now (Some at)
   unfolding numbers_by numbers_of
   reading_end h = w.whole ∙ rw ((let e : length old - i ≡ 0 = omega (arith, w.long) in e), take_all i now h) (ahead_values now (drop at bytes))

@@ -4,7 +4,6 @@
 ghost use Rattle.std.specs.Prelude.{◌≡◌, ◌≤◌, length, take};
 ghost use Rattle.transfers.specs.Plan.{most_input};
 
-use plan::Planned;
 use std::io::{self, Read};
 
 // Reads as many bytes of standard input as can change the text, and no more: `printed_by_front` says that more cannot. A read that fails ends the input.
@@ -30,7 +29,7 @@ fn main(rt: HostRuntime) -> io::Result<()> {
     let mut input = [0u8; plan::MOST_INPUT];
     let n = read(&rt, &mut input);
     let mut text = [0u8; plan::PLAN_TEXT];
-    let Planned::Text(long) = plan::plan(&input[..n], &mut text) else {
+    let Ok(long) = plan::plan(&input[..n], &mut text) else {
         return Ok(());
     };
     rt.write_all(&text[..long])

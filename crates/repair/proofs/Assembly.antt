@@ -17,7 +17,7 @@ use Rattle.shape.specs.declared.Shape.{Shape}
 use Rattle.shape.specs.Shape.{size}
 use Rattle.code.specs.Code.{narrow}
 use Rattle.classes.specs.Classes.{node, message_size}
-use Rattle.classes.specs.Steps.{place, other_rank, exchange_at, exchange, solved, own_pairs, contents}
+use Rattle.classes.specs.Steps.{other_rank, exchange_at, exchange, solved, own_pairs, contents}
 use Rattle.classes.specs.Whole.{from_helpers, from_sender, from_dead, wire, renewed, repaired_symbol, repaired}
 use Rattle.solving.specs.Solving.{slot_of}
 use Rattle.wiring.specs.Wires.{inward, inwards, to_rank, Messaged, Wired, Exchanged, from_others, Renewable, Renewed}

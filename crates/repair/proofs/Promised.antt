@@ -4,7 +4,7 @@ use mathlib.Core.List.{List}
 use Prim.Native.Nat.{ℕ}
 use lib.ListN.{length}
 use Rattle.shape.specs.declared.Shape.{Shape}
-use Rattle.shape.specs.declared.Answer.TheVariants.{Done}
+use Rattle.std.specs.Prelude.{Ok}
 use Rattle.shape.proofs.Answers.{afterwards_done}
 use Rattle.code.specs.Code.{narrow}
 use Rattle.judging.specs.Refusals.{whole_refusal}
@@ -20,7 +20,7 @@ whole_alike s dead helpers nodes wires after R = record {
 }
 
 pub repaired_promise : (s : Shape) (dead helpers nodes nodes_after wires wires_after : List ℕ) → whole_refusal narrow s dead helpers nodes (length wires) ≡ 0
-    → wires_after ≡ wire narrow s dead helpers nodes → nodes_after ≡ repaired narrow s dead helpers nodes → Repaired s dead helpers nodes nodes_after wires wires_after Done
+    → wires_after ≡ wire narrow s dead helpers nodes → nodes_after ≡ repaired narrow s dead helpers nodes → Repaired s dead helpers nodes nodes_after wires wires_after (Ok tt)
 repaired_promise s dead helpers nodes nodes_after wires wires_after e w n =
     let R : WholeRepair narrow s dead helpers nodes wires_after nodes_after = rw (w, n) (whole_accepted s dead helpers nodes (length wires) e) in
     record {

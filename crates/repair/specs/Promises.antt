@@ -3,8 +3,7 @@ use Rattle.std.specs.Prelude.{◌≡◌, List, ℕ, ◌+◌, ◌*◌, ◌-◌, �
 use Rattle.lists.specs.Lists.{position, piece}
 use Rattle.shape.specs.declared.Shape.{Shape}
 use Rattle.shape.specs.Shape.{size}
-use Rattle.shape.specs.declared.Answer.{Answer}
-use Rattle.shape.specs.Refusals.{answer_number, afterwards}
+use Rattle.shape.specs.Refusals.{answer_number, afterwards, Answer}
 use Rattle.code.specs.Code.{narrow}
 use Rattle.classes.specs.Classes.{node, message_size}
 use Rattle.classes.specs.Whole as Whole

@@ -1,4 +1,5 @@
 -- A packed card is short; a card unpacked into a buffer for its symbols and one for its header.
+use Rattle.std.specs.Prelude.{Result, Ok, Err}
 use mathlib.Core.Path.{◌≡◌, refl, sym, ap, ◌∙◌}
 use mathlib.Core.List.{List, [], ◌∷◌, ◌++◌, append-nil}
 use Prim.Native.Nat.{ℕ, zero, suc, ◌+◌, ◌*◌, ◌≤◌}
@@ -11,29 +12,25 @@ use Rattle.lists.proofs.Tests.{cond_equal, cond_unequal}
 use Rattle.lists.proofs.Writing.{sets_front}
 use Rattle.shape.specs.declared.Refusal.{Refusal}
 use Rattle.shape.specs.Shape.{symbol_values, size}
-use Rattle.shape.specs.Refusals.{number_of}
+use Rattle.shape.specs.Refusals.{number_of, answer_number, answer_values}
 use Rattle.shape.proofs.Accepted.{most_size}
 use Rattle.shape.proofs.Answers.{number_positive, afterwards_done}
 use Rattle.card.specs.declared.Header.{Header}
-use Rattle.card.specs.declared.Packed.{Packed}
-use Rattle.card.specs.declared.Packed.TheVariants as pack
-use Rattle.card.specs.declared.Unpacked.{Unpacked}
-use Rattle.card.specs.declared.Unpacked.TheVariants as unpack
 use Rattle.numbers.specs.Numbers.{most_groups, Numbers, values, broken}
 use Rattle.card.specs.Cards.{header_fields, field_count, header_of, least_hearing, front_by, header_refusal, card_bytes, card_room, pack_refusal, Symbols, read_symbols, refused, card, judged, header_by, unpacked, unpacked_by}
-use Rattle.card.specs.Promises.{packed_number, packed_values, reading_of, reading_number, reading_symbols, Packs, Unpacks}
+use Rattle.card.specs.Promises.{reading_of, reading_number, reading_symbols, Packs, Unpacks}
 use Rattle.card.proofs.Judging.{header_accepted, pack_accepted}
 use Rattle.card.proofs.Cards.{card_fits}
 use Rattle.returned.specs.Promises.{unpack_room, unpacked_into, reading_header, UnpackReturned}
 
 -- ---- packing
 
-pub card_short : (h : Header) (symbols before after : List ℕ) (answer : Packed) (long : ℕ) → Packs h symbols before after answer → answer ≡ pack.Card long
+pub card_short : (h : Header) (symbols before after : List ℕ) (answer : Result ℕ Refusal) (long : ℕ) → Packs h symbols before after answer → answer ≡ Ok long
     → long ≤ 15 + 2 * most_size
 unfolding card_room
 card_short h symbols before after answer long p e =
-    let taken : pack_refusal symbol_values h symbols (length before) ≡ 0 = sym p.number ∙ ap packed_number e in
-    let one : long ∷ [] ≡ length (card_bytes h symbols) ∷ [] = sym (ap packed_values e) ∙ p.returned ∙ afterwards_done [] _ _ taken in
+    let taken : pack_refusal symbol_values h symbols (length before) ≡ 0 = sym p.number ∙ ap answer_number e in
+    let one : long ∷ [] ≡ length (card_bytes h symbols) ∷ [] = sym (ap answer_values e) ∙ p.returned ∙ afterwards_done [] _ _ taken in
     let same : long ≡ length (card_bytes h symbols) = cc in
     omega (arith, same, card_fits symbol_values (omega arith) h symbols (length before) taken, (pack_accepted symbol_values h symbols (length before) taken).headed.shaped.size_high)
 
@@ -78,7 +75,7 @@ no_room bytes h xs e = go (front_by most_groups bytes) e
         next (suc number) a found q = let q' : refused (suc number) ≡ card h xs = unfold judged in q in let z : ◌≡◌ {A = ℕ} 0 1 = cc in omega arith
 
 -- the buffers behind the call, whose symbols were lent in the front of their buffer
-module _ (bytes symbols header after : List ℕ) (room : ℕ) (same : room ≡ unpack_room (length header) (length symbols)) (answer : Unpacked)
+module _ (bytes symbols header after : List ℕ) (room : ℕ) (same : room ≡ unpack_room (length header) (length symbols)) (answer : Result Header Refusal)
     (p : Unpacks bytes (take room symbols) after answer) where
   -- what was read, by the room that the front had
   reading : unpacked_into bytes symbols header ≡ reading_of answer after
@@ -89,7 +86,7 @@ module _ (bytes symbols header after : List ℕ) (room : ℕ) (same : room ≡ u
   front : after ≡ reading_symbols (take room symbols) (reading_of answer after)
   front = p.buffer ∙ ap (reading_symbols (take room symbols)) (sym p.returned)
 
-  pub unpack_refused : (cause : Refusal) → answer ≡ unpack.Refused cause → UnpackReturned bytes symbols (after ++ drop room symbols) header header (number_of cause)
+  pub unpack_refused : (cause : Refusal) → answer ≡ Err cause → UnpackReturned bytes symbols (after ++ drop room symbols) header header (number_of cause)
   unfolding reading_number reading_symbols reading_header
   unpack_refused cause e =
       let read : unpacked_into bytes symbols header ≡ refused (number_of cause) = reading ∙ ap (λ w. reading_of w after) e in
@@ -101,7 +98,7 @@ module _ (bytes symbols header after : List ℕ) (room : ℕ) (same : room ≡ u
         six = λ z. absurd (omega (arith, number_positive cause));
       }
 
-  module _ (h : Header) (e : answer ≡ unpack.Header h) where
+  module _ (h : Header) (e : answer ≡ Ok h) where
     read : unpacked_into bytes symbols header ≡ card h after
     read = reading ∙ ap (λ w. reading_of w after) e
 

@@ -8,12 +8,12 @@ use native.Mathlib.Omega.{arith}
 use lib.Arith.{digits_lt}
 use Rattle.shape.specs.declared.Shape.{Shape}
 use Rattle.shape.specs.Shape.{most_nodes, size}
-use Rattle.shape.specs.Refusals.{shape_bad}
+use Rattle.shape.specs.Refusals.{answer_number, shape_bad}
 use Rattle.shape.proofs.Accepted.{Shaped, passed, shape_accepted, most_size}
-use Rattle.checking.specs.declared.Checked.{Checked}
-use Rattle.checking.specs.declared.Checked.TheVariants.{Unmet, HighData}
+use Rattle.std.specs.Prelude.{Ok, Some}
+use Rattle.checking.specs.declared.Fault.TheVariants.{Unmet, HighData}
 use Rattle.code.specs.Refusals.{check_refusal}
-use Rattle.checking.specs.Promises.{checked_number, equation_number, symbol_number, Checks}
+use Rattle.checking.specs.Promises.{Checked, equation_number, symbol_number, Checks}
 use Rattle.returned.specs.Promises.{behind_equations}
 
 -- equation t at (layer, a) is one of the shape's
@@ -55,17 +55,17 @@ unfolding equation_number behind_equations size
 numbers_apart s layer a t node place l h below = (omega (arith, digits_lt {q = layer * 2 ^ s.n + a} (digits_lt l h) below), omega arith)
 
 -- what a check was given that found a data symbol above 255
-pub high_shape : (s : Shape) (nodes : List ℕ) (answer : Checked) (node place : ℕ) → Checks s nodes answer → answer ≡ HighData node place
+pub high_shape : (s : Shape) (nodes : List ℕ) (answer : Checked) (node place : ℕ) → Checks s nodes answer → answer ≡ Ok (Some (HighData node place))
     → (shape_bad s ≡ false) × (node < s.k) × (place < size s)
 unfolding check_refusal
 high_shape s nodes answer node place p e =
     let f = (p.high node place e).1 in
-    ((passed (shape_bad s) 0 _ (sym p.number ∙ ap checked_number e)).0, f.node_below, f.place_below)
+    ((passed (shape_bad s) 0 _ (sym p.number ∙ ap answer_number e)).0, f.node_below, f.place_below)
 
 -- what a check that found an unmet equation was given
-pub unmet_shape : (s : Shape) (nodes : List ℕ) (answer : Checked) (layer a t : ℕ) → Checks s nodes answer → answer ≡ Unmet layer a t
+pub unmet_shape : (s : Shape) (nodes : List ℕ) (answer : Checked) (layer a t : ℕ) → Checks s nodes answer → answer ≡ Ok (Some (Unmet layer a t))
     → (shape_bad s ≡ false) × (layer < s.layers) × (a < 2 ^ s.n) × (t < s.n - s.k)
 unfolding check_refusal
 unmet_shape s nodes answer layer a t p e =
     let u = p.unmet layer a t e in
-    ((passed (shape_bad s) 0 _ (sym p.number ∙ ap checked_number e)).0, u.layer_below, u.a_below, u.t_below)
+    ((passed (shape_bad s) 0 _ (sym p.number ∙ ap answer_number e)).0, u.layer_below, u.a_below, u.t_below)

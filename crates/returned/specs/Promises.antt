@@ -1,22 +1,14 @@
 -- What is promised of the C interface: the number that a C caller gets, and of the buffers what the call below promises.
-use Rattle.std.specs.Prelude.{◌≡◌, cond, List, ℕ, ◌+◌, ◌-◌, ◌*◌, eqb, length}
+use Rattle.std.specs.Prelude.{◌≡◌, cond, List, ℕ, ◌+◌, ◌-◌, ◌*◌, eqb, length, Ok, Err, Result, Some, None}
 use Rattle.shape.specs.Shape.{symbol_values, size}
 use Rattle.shape.specs.declared.Shape.{Shape}
+use Rattle.shape.specs.declared.Refusal.{Refusal}
 use Rattle.shape.specs.Refusals.{number_of}
-use Rattle.checking.specs.declared.Checked.{Checked}
-use Rattle.checking.specs.declared.Checked.TheVariants as checked
-use Rattle.checking.specs.Promises.{equation_number, symbol_number}
+use Rattle.checking.specs.declared.Fault.TheVariants.{Unmet, HighData}
+use Rattle.checking.specs.Promises.{Checked, equation_number, symbol_number}
 use Rattle.card.specs.declared.Header.{Header}
-use Rattle.card.specs.declared.Packed.{Packed}
-use Rattle.card.specs.declared.Packed.TheVariants as packed
 use Rattle.card.specs.Cards.{Reading, refused, card, header_fields, field_count, unpacked}
 use Rattle.card.specs.Promises.{reading_number, reading_symbols}
-use Rattle.plan.specs.declared.Planned.{Planned}
-use Rattle.plan.specs.declared.Planned.TheVariants as planned
-use Rattle.choosing.specs.declared.Chosen.{Chosen}
-use Rattle.choosing.specs.declared.Chosen.TheVariants as chosen
-use Rattle.stretches.specs.declared.Read.{Read}
-use Rattle.stretches.specs.declared.Read.TheVariants as read
 
 -- every call but unpack: the promise of the call below holds of an answer, and the number returned is that answer's, which the promise fixes
 pub record Returned {A : Type 0} (number_for : A → ℕ) (promise : A → Type 0) (number : ℕ) : Type 0 where
@@ -46,30 +38,15 @@ behind_equations s node place = (s.n - s.k) * size s + symbol_number s node plac
 -- 0 sound; a refusal's number; 256 + e where equation e is the first unmet; or, where all equations are met and that data symbol is the
 -- first above 255, 256 + r × N + (node × N + place) (document 02 §5)
 abbrev pub check_returned : Shape → Checked → ℕ
-check_returned s checked.Sound = 0
-check_returned s (checked.Refused cause) = number_of cause
-check_returned s (checked.Unmet layer a t) = first_found + equation_number s layer a t
-check_returned s (checked.HighData node place) = first_found + behind_equations s node place
+check_returned s (Ok None) = 0
+check_returned s (Err cause) = number_of cause
+check_returned s (Ok (Some (Unmet layer a t))) = first_found + equation_number s layer a t
+check_returned s (Ok (Some (HighData node place))) = first_found + behind_equations s node place
 
--- a refusal's number, or 256 + the card's length
-abbrev pub pack_returned : Packed → ℕ
-pack_returned (packed.Refused cause) = number_of cause
-pack_returned (packed.Card long) = first_found + long
-
--- a refusal's number, or 256 + the text's length
-abbrev pub plan_returned : Planned → ℕ
-plan_returned (planned.Refused cause) = number_of cause
-plan_returned (planned.Text long) = first_found + long
-
--- a refusal's number, or 256 + L (document 02 §6)
-abbrev pub layers_returned : Chosen → ℕ
-layers_returned (chosen.Refused cause) = number_of cause
-layers_returned (chosen.Layers layers) = first_found + layers
-
--- a refusal's number, or 256 + the count of symbols read (document 02 §2)
-abbrev pub read_returned : Read → ℕ
-read_returned (read.Refused cause) = number_of cause
-read_returned (read.Symbols count) = first_found + count
+-- a refusal's number, or 256 + the number found: a card's length, that of a plan's text, L (document 02 §6), the count of symbols read (document 02 §2)
+abbrev pub found_number : Result ℕ Refusal → ℕ
+found_number (Err cause) = number_of cause
+found_number (Ok found) = first_found + found
 
 -- ---- unpack
 

@@ -1,26 +1,40 @@
 // The numbers that the C interface returns, the room that its unpacking lends, and the header's numbers in their buffer.
 #![tactic(auto)]
 
-ghost use Rattle.std.specs.Prelude.{◌≡◌, false, ◌-◌, ◌^◌, ◌<◌, length};
+ghost use Rattle.std.specs.Prelude.{◌≡◌, false, ℕ, ◌-◌, ◌^◌, ◌<◌, length, Ok};
 ghost use Rattle.shape.specs.Shape.{size};
 ghost use Rattle.shape.specs.Refusals.{answer_number, shape_bad};
 ghost use Rattle.checking.specs.Promises.{equation_number};
 ghost use Rattle.card.specs.Cards.{field_count, header_fields};
-ghost use Rattle.returned.specs.Promises.{behind_equations, unpack_room};
+ghost use Rattle.returned.specs.Promises.{behind_equations, found_number, unpack_room};
 
 use card::Header;
-use shape::{Answer, Shape, number_of, size, two_to};
+use shape::{Refusal, Shape, size, two_to};
 
 // The numbers of a card's header: n, k, layers, node, length, hearing number.
 const HEADER_COUNT: usize = 6;
 
+// What check, pack, plan, layers and the stretches find is returned behind the numbers below this one, which are refusals'.
+pub const FIRST_FOUND: usize = 256;
+
 // What a call that does its work or turns back returns to C.
-pub fn answer_number(answer: Answer) -> usize
+pub fn answer_number(answer: Result<(), Refusal>) -> usize
     ensures { result ≡ answer_number answer }
 {
     match answer {
-        Answer::Done => 0,
-        Answer::Refused(cause) => number_of(cause),
+        Ok(()) => 0,
+        Err(cause) => usize::from(cause),
+    }
+}
+
+// What a call that finds a number or turns back returns to C.
+pub fn found_number(answer: Result<usize, Refusal>) -> usize
+    requires { (found : ℕ) → answer ≡ Ok found → found < 2 ^ 32 }
+    ensures { result ≡ found_number answer }
+{
+    match answer {
+        Ok(found) => FIRST_FOUND + found,
+        Err(refusal) => usize::from(refusal),
     }
 }
 

@@ -1,22 +1,23 @@
 -- A loop that stores a row, an element at a time.
 use mathlib.Core.Path.{◌≡◌, refl, sym, ap, ◌∙◌}
 use mathlib.Core.Logic.{◌⊎◌, inl, inr}
-use mathlib.Core.List.{List, ◌++◌}
+use mathlib.Core.List.{List}
 use Prim.Native.Nat.{ℕ, ◌+◌, ◌-◌, ◌*◌, ◌/◌, ◌%◌, ◌≤◌, ◌<◌}
 use native.Mathlib.Decide.{ℕ_discrete}
 use native.Mathlib.Nat.{mod-eq_of_lt}
 use native.Mathlib.Omega.{arith}
-use lib.ListN.{length, get_or, take, drop, set, length-set, length-take, replicate, length-replicate, get_or-replicate, get_or-eq_default, get_or-append}
-use lib.Seq.{get_or-set_same, get_or-set_other, get_or-append-add, get_or-take, get_or-drop}
-use Rattle.lists.specs.Lists.{element, flat}
+use lib.ListN.{length, get_or, take, drop, set, length-set, length-append, length-take, length-drop, replicate, length-replicate, get_or-replicate, get_or-eq_default}
+use borrow.Rule.Slice.PartMut.{put_mid}
+use borrow.Author.Rules.{rules}
+use Rattle.std.proofs.lemmas.List.{places}
+use lib.Seq.{get_or-set_same, get_or-set_other, get_or-take, get_or-drop}
+use Rattle.lists.specs.Lists.{flat}
 use Rattle.lists.proofs.Tests.{below_or_not}
 use Rattle.lists.proofs.Flats.{flat_length, flat_at}
 use Rattle.lists.proofs.Places.{place_of}
 use Rattle.field.specs.Residues.{minus}
 use Rattle.field.proofs.Residues.{mod_mul_mod, mul_mod_mod}
-use Rattle.inverting.specs.Inverses.{Pivots, Inverted}
-use Rattle.inverting.proofs.Inverses.{inverted_low, inverted_front}
-use Rattle.rows.specs.Rows.{most_places, Low, Stored}
+use Rattle.rows.specs.Rows.{Low, Stored}
 
 pub stored_none : (at : ℕ) (f : ℕ → ℕ) (before : List ℕ) → Stored at 0 f before before
 stored_none at f before = record { long = refl; there = λ i h. absurd (omega arith); ahead = λ e h. refl; behind = λ e h. refl }
@@ -38,9 +39,15 @@ stored_more at i f before now v w room e = record {
 pub stored_front : (i : ℕ) (f : ℕ → ℕ) (before now : List ℕ) (v : ℕ) → Stored 0 i f before now → i < length before → v ≡ f i → Stored 0 (i + 1) f before (set now i v)
 stored_front i f before now v w room e = let z : 0 + i ≡ i = omega arith in rw z at (stored_more 0 i f before now v w (rw z room) e)
 
--- an element that the loop has not come to
-pub stored_later : (i : ℕ) (f : ℕ → ℕ) (before now : List ℕ) → Stored 0 i f before now → (e : ℕ) → i ≤ e → get_or now e 0 ≡ get_or before e 0
-stored_later i f before now w e h = w.behind e (omega arith)
+-- a part of k elements that was lent holds f 0, f 1, .. when it comes back
+pub stored_part : (at n k : ℕ) (f : ℕ → ℕ) (before part : List ℕ) → k ≡ n → at + n ≤ length before → length part ≡ n → ((i : ℕ) → i < n → get_or part i 0 ≡ f i)
+    → Stored at n f before (put_mid at k before part)
+stored_part at n k f before part same room long there = record {
+  long = simp (length-append, length-take, length-drop) (omega arith);
+  there = λ i h. search (rules, places);
+  ahead = λ e h. search (rules, places);
+  behind = λ e h. search (rules, places);
+}
 
 pub stored_low : (q at n : ℕ) (f : ℕ → ℕ) (before after : List ℕ) → Stored at n f before after → Low q before → ((i : ℕ) → i < n → f i < q) → Low q after
 stored_low q at n f before after w low h = record { at = λ e. go e (below_or_not e at) (below_or_not e (at + n)) }
@@ -77,23 +84,6 @@ low_flat q m n f o long h =
     low_each q (flat n f) o
     (λ e l. let p = place_of n m e (rw (flat_length m f n (λ i _. long i)) at l) in
     rw (ap (λ k. get_or (flat n f) k 0) (sym p.whole) ∙ flat_at m f n (λ i _. long i) (e / m) (e % m) 0 p.row p.place) ((h (e / m) p.row).at (e % m)))
-
--- elements below q, and behind them what is left of such a list
-pub low_behind : (q n : ℕ) (xs ys : List ℕ) → ((i : ℕ) → i < length xs → get_or xs i 0 < q) → Low q ys → Low q (xs ++ drop n ys)
-low_behind q n xs ys h w = record { at = λ e. go e (below_or_not e (length xs)) }
-  where
-    go : (e : ℕ) → (e < length xs) ⊎ (length xs ≤ e) → get_or (xs ++ drop n ys) e 0 < q
-    go e (inl l) = rw (get_or-append xs (drop n ys) 0 e l) (h e l)
-    go e (inr l) =
-        let d : e ≡ length xs + (e - length xs) = omega arith in
-        rw (ap (λ k. get_or (xs ++ drop n ys) k 0) d ∙ get_or-append-add xs (drop n ys) (e - length xs) 0 ∙ get_or-drop n ys (e - length xs) 0) (w.at (n + (e - length xs)))
-
--- inverses in front of a row of zeros
-pub inverses_made : (q run : ℕ) (row out : List ℕ) → run ≤ length row → 0 < q → Inverted q (take run row) 0 out
-    → Low q (out ++ drop run (replicate most_places 0))
-    × (Pivots q run (element row) → (i : ℕ) → i < run → (element row i * element (out ++ drop run (replicate most_places 0)) i) % q ≡ 1)
-inverses_made q run row out h o w =
-    (low_behind q run out _ (inverted_low q (take run row) out w) (low_replicate q most_places 0 o), inverted_front q run row out h w _)
 
 -- a difference that is not reduced serves a product as well
 pub product_difference : (q a x y : ℕ) → y < q → (a * (x + q - y)) % q ≡ a * minus q x y % q

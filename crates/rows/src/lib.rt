@@ -6,7 +6,7 @@ ghost use Rattle.lists.specs.Lists.{element};
 ghost use Rattle.inverting.specs.Inverses.{Pivots};
 ghost use Rattle.rows.specs.Rows.{most_places, most_modulus, Low, Stored, scaled, quotient, added, remainder, copied};
 
-use inverting::invert;
+use inverting::inverted;
 
 // The most places of a row.
 pub const RUN: usize = 64;
@@ -16,14 +16,7 @@ pub fn run_from(size: usize, first: usize) -> usize
     requires { first < size }
     ensures { (0 < result) × (result ≤ most_places) × (first + result ≤ size) }
 {
-    let left = size - first;
-    if left < RUN { left } else { RUN }
-}
-
-fn wide(x: u16) -> u32
-    ensures { result ≡ x }
-{
-    x as u32
+    (size - first).min(RUN)
 }
 
 // Each element of a row times the difference of two points, whose rows start at x and y.
@@ -31,8 +24,8 @@ pub fn scale(q: u32, run: usize, points: &[u32], x: usize, y: usize, row: &mut [
     requires { (0 < q) × (q ≤ most_modulus) × (run ≤ most_places) × (x + run ≤ length points.now) × (y + run ≤ length points.now) × Low q points.now × Low q row.old × (length row.old ≡ most_places) }
     ensures { Stored 0 run (scaled q points.now x y row.old) row.old row.new }
 {
-    for i in 0..run {
-        row[i] = row[i] * (points[x + i] + q - points[y + i]) % q;
+    for (i, product) in row[..run].iter_mut().enumerate() {
+        *product = *product * (points[x + i] + q - points[y + i]) % q;
     }
 }
 
@@ -41,9 +34,7 @@ pub fn inverses(q: u32, run: usize, row: [u32; RUN]) -> [u32; RUN]
     requires { (1 < q) × (run ≤ most_places) × (length row ≡ most_places) }
     ensures { Low q result × (Pivots q run (element row) → (i : ℕ) → i < run → (element row i * element result i) % q ≡ 1) }
 {
-    let mut out = [0u32; RUN];
-    invert(q, &row[..run], &mut out[..run]);
-    out
+    inverted(q, run, &row)
 }
 
 // The opposite of each element of a row times one of another row, from a place of a table on.
@@ -58,8 +49,8 @@ pub fn quotients(
     requires { (0 < q) × (q ≤ most_modulus) × (run ≤ most_places) × (at + run ≤ length table.old) × Low q tops × Low q inverted }
     ensures { Stored at run (quotient q tops inverted) table.old table.new }
 {
-    for i in 0..run {
-        table[at + i] = ((q - tops[i]) * inverted[i] % q) as u16;
+    for (i, multiplier) in table[at..at + run].iter_mut().enumerate() {
+        *multiplier = ((q - tops[i]) * inverted[i] % q) as u16;
     }
 }
 
@@ -75,8 +66,8 @@ pub fn add_products(
     requires { (run ≤ most_places) × (f + run ≤ length factors.now) × (s + run ≤ length symbols.now) × ((i : ℕ) → i < run → added factors.now f symbols.now s sums.old i < 4294967296) × (length sums.old ≡ most_places) }
     ensures { Stored 0 run (added factors.now f symbols.now s sums.old) sums.old sums.new }
 {
-    for i in 0..run {
-        sums[i] = sums[i] + wide(factors[f + i]) * wide(symbols[s + i]);
+    for (i, sum) in sums[..run].iter_mut().enumerate() {
+        *sum += u32::from(factors[f + i]) * u32::from(symbols[s + i]);
     }
 }
 
@@ -85,8 +76,8 @@ pub fn store(q: u32, run: usize, sums: [u32; RUN], at: usize, out: &mut [u16])
     requires { (0 < q) × (q ≤ most_modulus) × (run ≤ most_places) × (at + run ≤ length out.old) }
     ensures { Stored at run (remainder q sums) out.old out.new }
 {
-    for i in 0..run {
-        out[at + i] = (sums[i] % q) as u16;
+    for (i, symbol) in out[at..at + run].iter_mut().enumerate() {
+        *symbol = (sums[i] % q) as u16;
     }
 }
 
@@ -95,7 +86,5 @@ pub fn copy(count: usize, symbols: &[u16], s: usize, at: usize, out: &mut [u16])
     requires { (s + count ≤ length symbols.now) × (at + count ≤ length out.old) }
     ensures { Stored at count (copied symbols.now s) out.old out.new }
 {
-    for i in 0..count {
-        out[at + i] = symbols[s + i];
-    }
+    out[at..at + count].copy_from_slice(&symbols[s..s + count]);
 }

@@ -9,7 +9,8 @@ use native.Mathlib.Decide.{ℕ_discrete}
 use native.Mathlib.Omega.{arith}
 use borrow.Author.Tests.{not-false}
 use lib.Dec.{eqb}
-use lib.ListN.{length, get_or, replicate, length-replicate}
+use lib.ListN.{length, get_or, take, drop, length-take}
+use lib.Seq.{get_or-drop, get_or-take}
 use Rattle.lists.specs.Lists.{element, member, position, rising}
 use Rattle.lists.proofs.Members.{member_of, at_position, rising_below, rising_distinct, rising_more}
 use Rattle.lists.proofs.Sums.{sum_ext}
@@ -34,15 +35,12 @@ use Rattle.classes.proofs.Ranks.{rank_class_le}
 use Rattle.classes.proofs.Counts.{message_is}
 use Rattle.classes.proofs.Layouts.{bounded, ready_dead, node_high}
 use Rattle.classes.proofs.Members.{members_few, member_spot}
-use Rattle.solving.specs.Solving.{Helped, sent_size, Gathered, row_sum, Needed, Multiplied, Spread, Put, Other, slot_place, handed_sum, handed, HandedOut, Which, own_entry, own, Owned}
+use Rattle.solving.specs.Solving.{Helped, Gathered, row_sum, Needed, Multiplied, Spread, Put, Other, slot_place, handed_sum, handed, HandedOut, Which, own_entry, own, Owned}
 use Rattle.solving.proofs.Puts.{put_same, put_more, put_spread}
 
 -- ---- what the helpers sent
 
 module _ (helpers : List ℕ) (n : ℕ) (high : n ≤ most_nodes) (up : rising 0 n helpers ≡ true) (share first run : ℕ) (few : run ≤ most_places) (messages : List ℕ) where
-  pub gathered_none : Gathered helpers share first run messages 0 (replicate sent_size 0)
-  gathered_none = record { long = length-replicate {A = ℕ} sent_size 0; each = λ j t h. absurd (omega arith) }
-
   pub gathered_more : (m : ℕ) (now after : List ℕ) → m < length helpers → Gathered helpers share first run messages m now
       → Stored (get_or helpers m 0 * most_places) run (copied messages (m * share + first)) now after → Gathered helpers share first run messages (m + 1) after
   unfolding copied
@@ -58,6 +56,20 @@ module _ (helpers : List ℕ) (n : ℕ) (high : n ≤ most_nodes) (up : rising 0
               → get_or after (get_or helpers j 0 * most_places + t) 0 ≡ get_or now (get_or helpers j 0 * most_places + t) 0
           beside (inl b) = put.ahead _ (omega arith)
           beside (inr b) = put.behind _ (omega arith)
+
+-- ---- the members of a class in a run
+
+-- the run is within the listed class, whose members are few
+pub run_inside : {dead : List ℕ} {g : Layout} → Ready dead g → (u first run : ℕ) (class : List ℕ) → g.places ≤ length class
+    → first + run ≤ length (members dead (rank_class dead u) (2 ^ g.shape.n)) → (first + run ≤ length class) × (first + run ≤ 2 ^ most_nodes)
+run_inside {dead} {g} R u first run class h l =
+    let f = members_few dead (rank_class dead u) (2 ^ g.shape.n) in
+    (omega (arith, h, R.places_is, l, f), omega (arith, l, f, (shape_accepted g.shape R.shaped).places_high))
+
+pub run_member : (class : List ℕ) (first run t : ℕ) → t < length (take (first + run - first) (drop first class))
+    → get_or (take (first + run - first) (drop first class)) t 0 ≡ get_or class (first + t) 0
+run_member class first run t h =
+    get_or-take (first + run - first) (drop first class) t 0 (omega (arith, h, length-take (first + run - first) (drop first class))) ∙ get_or-drop first class t 0
 
 -- ---- the entries
 

@@ -17,9 +17,6 @@ use Rattle.solving.specs.Solving.{Spread, Put}
 -- ---- a row, an element at a time
 
 module _ (base : ℕ) (at : List ℕ) (f : ℕ → ℕ) (before : List ℕ) where
-  pub spread_none : Spread 0 base at f before before
-  spread_none = record { long = refl; hit = λ t h. absurd (omega arith); rest = λ z h. refl }
-
   -- no place that was stored at is stored at again
   pub spread_more : (t : ℕ) (now : List ℕ) (v : ℕ) → Spread t base at f before now → base + element at t < length before → v ≡ f t
       → ((i : ℕ) → i < t → element at i ≢ element at t) → Spread (t + 1) base at f before (set now (base + element at t) v)

@@ -17,7 +17,7 @@ use Rattle.code.specs.Code.{narrow}
 use Rattle.rows.specs.Rows.{most_places, Stored, remainder}
 use Rattle.filling.specs.Filling.{term, Summed, InRun}
 use Rattle.classes.specs.Classes.{node, message_size}
-use Rattle.classes.specs.Steps.{place, other_rank, own_pair, own_pairs, exchange_at, exchange, exchange_to, exchanges}
+use Rattle.classes.specs.Steps.{other_rank, own_pair, own_pairs, exchange_at, exchange, exchange_to, exchanges}
 use Rattle.solving.specs.Solving.{slot_of, row_sum, Put, Other, slot_place, handed_sum, handed, HandedOut, own_entry, own, Owned, pair_place}
 use Rattle.classes.proofs.FirstStep.{exchange_length, pairs_at}
 use Rattle.classes.proofs.Placing.{other_is}

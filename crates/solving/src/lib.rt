@@ -35,14 +35,8 @@ pub fn gather(
 {
     let share = g.share;
     let mut sent = [0u16; SENT];
-    for j in 0..helpers.len() {
-        copy(
-            run,
-            messages,
-            j * share + first,
-            helpers[j] * RUN,
-            &mut sent,
-        );
+    for (j, &helper) in helpers.iter().enumerate() {
+        copy(run, messages, j * share + first, helper * RUN, &mut sent);
     }
     sent
 }
@@ -52,8 +46,8 @@ fn spread(run: usize, sums: [u32; RUN], base: usize, at: &[usize], out: &mut [u1
     requires { (run ≤ most_places) × Places run base at.now (length out.old) }
     ensures { Spread run base at.now (remainder narrow.modulus sums) out.old out.new }
 {
-    for t in 0..run {
-        out[base + at[t]] = (sums[t] % MODULUS) as u16;
+    for (&sum, &place) in sums[..run].iter().zip(at) {
+        out[base + place] = (sum % MODULUS) as u16;
     }
 }
 
@@ -107,11 +101,11 @@ pub fn hand_out(
     let share = g.share;
     let h = dead.len();
     let k = helpers.len();
-    for v in 0..h {
+    for (v, &node) in dead.iter().enumerate() {
         if v == u {
             continue;
         }
-        let sums = sum_row(run, RUN, 0, helpers, table, dead[v] * k, sent);
+        let sums = sum_row(run, RUN, 0, helpers, table, node * k, sent);
         store(MODULUS, run, sums, slot(all, h, u, v) * share + first, out);
     }
 }
@@ -136,8 +130,8 @@ pub fn run_table(
     let marked = marks(n + 1, helpers);
     let skipped = idle(n, dead);
     let mut each = [0usize; RUN];
-    for t in 0..run {
-        each[t] = class[first + t] as usize;
+    for (t, &member) in class[first..first + run].iter().enumerate() {
+        each[t] = usize::from(member);
     }
     entry_multipliers(n, dead[u], &each, run, helpers, marked, skipped, table);
 }

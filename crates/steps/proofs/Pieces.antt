@@ -1,5 +1,5 @@
 -- A loop over pieces of a buffer, batch by batch.
-use mathlib.Core.Path.{◌≡◌, refl, ◌∙◌}
+use mathlib.Core.Path.{◌≡◌, ◌∙◌}
 use mathlib.Core.Logic.{◌⊎◌, inl, inr}
 use mathlib.Core.List.{List}
 use Prim.Native.Nat.{ℕ, ◌+◌, ◌*◌, ◌-◌, ◌≤◌, ◌<◌}
@@ -17,9 +17,6 @@ pub record Pieces (n m : ℕ) (P : ℕ → List ℕ → List ℕ → Type 0) (b 
   pub left : (i : ℕ) → b ≤ i → i < n → piece m i now ≡ piece m i old
 
 module _ (n m : ℕ) (P : ℕ → List ℕ → List ℕ → Type 0) (old : List ℕ) where
-  pub pieces_none : Pieces n m P 0 old old
-  pieces_none = record { long = refl; done = λ i h. absurd (omega arith); left = λ i h l. refl }
-
   pub pieces_more : (b : ℕ) (now p : List ℕ) → length old ≡ n * m → b < n → Pieces n m P b old now → P b (piece m b now) p → length p ≡ m
       → Pieces n m P (b + 1) old (put_mid (b * m) (b * m + m - b * m) now p)
   pieces_more b now p all h A q long = record {

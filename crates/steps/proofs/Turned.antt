@@ -10,21 +10,21 @@ use borrow.Author.Tests.{eqb-true}
 use lib.Arith.{digits_lt}
 use lib.Bits.{bit_xor, xor_zero_l, xor_block}
 use lib.Dec.{eqb}
-use lib.ListN.{length, get_or, take, length-take, get_or-eq_default}
+use lib.ListN.{length, get_or, take, drop, length-take, get_or-eq_default}
 use lib.Pow.{pow-lt}
 use lib.Seq.{ext_get_or, get_or-take}
 use Rattle.lists.specs.Lists.{tabulate, range, piece, element}
 use Rattle.lists.specs.Digits.{flip}
 use Rattle.lists.proofs.Tests.{below_or_not}
 use Rattle.lists.proofs.Tables.{is_tabulate, tabulate_at, range_length}
-use Rattle.lists.proofs.Flats.{piece_at}
+use Rattle.lists.proofs.Flats.{piece_at, piece_length}
 use Rattle.lists.proofs.Xors.{flip_xor}
 use Rattle.field.specs.Residues.{minus}
 use Rattle.shape.specs.declared.Shape.{Shape}
 use Rattle.shape.specs.Shape.{most_nodes, size}
 use Rattle.code.specs.Code.{Code}
 use Rattle.classes.specs.declared.Layout.{Layout}
-use Rattle.classes.specs.Classes.{batch, top, node, rank_class, partner, members, spot, Sum, sum_at, sum_place, message_size}
+use Rattle.classes.specs.Classes.{top, node, rank_class, partner, members, spot, Sum, sum_at, sum_place, message_size}
 use Rattle.classes.specs.Steps.{added, helper_message}
 use Rattle.classes.specs.Layout.{Ready, Fronted}
 use Rattle.classes.proofs.Sizes.{batch_pos}
@@ -37,7 +37,7 @@ use Rattle.classes.proofs.Messages.{message_at, message_table, spot_number}
 use Rattle.classes.proofs.Members.{member_is, member_sum, members_few, one_class}
 use Rattle.steps.specs.Storing.{sum_symbol, Paired, LowAt, Crossed}
 use Rattle.batches.specs.Batches.{turned, Apart, added_in, PairedIn, LowNear, left_in, Stored}
-use Rattle.lists.proofs.Parts.{row_within}
+use Rattle.lists.proofs.Parts.{row_within, piece_part}
 use Rattle.shape.proofs.Accepted.{most_size}
 use Rattle.batches.proofs.Batches.{turned_is, turned_none}
 use Rattle.steps.proofs.Pieces.{Pieces}
@@ -313,6 +313,19 @@ module _ {dead : List ℕ} {g : Layout} (R : Ready dead g) (u : ℕ) (l : u < le
     size_high = (bounded R).size_high;
     share_high = share_high R;
   }
+
+  -- the table's part has the members
+  pub listed : length (take count table) ≡ count
+  listed = ap length K.front ∙ sym K.count_is
+
+  -- as they are lent: the symbols of a batch, and its sums, one for each member
+  pub block_long : (b : ℕ) → b < g.batches → (symbols : List ℕ) → length symbols ≡ size g.shape
+      → length (take (b * (g.batch * g.places) + g.batch * g.places - b * (g.batch * g.places)) (drop (b * (g.batch * g.places)) symbols)) ≡ g.batch * g.places
+  block_long b h symbols e = ap length (piece_part (g.batch * g.places) b symbols) ∙ piece_length (g.batch * g.places) b symbols (rw e (room b h).block)
+
+  pub sums_long : (b : ℕ) → b < g.batches → (sums : List ℕ) → length sums ≡ message_size g.shape dead
+      → length (take (b * count + count - b * count) (drop (b * count) sums)) ≡ length (take count table)
+  sums_long b h sums e = ap length (piece_part count b sums) ∙ piece_length count b sums (rw e (room b h).sums) ∙ sym listed
 
   pub apart_by : (b : ℕ) → b < g.batches → (which : ℕ) → which < 2 → Apart (take count table) (turn * (1 - which)) (turn * which) (g.batch * g.places)
   apart_by b h which k = rw (K.front, K.turn_is) (apart_in R u l b h which k)

@@ -12,7 +12,7 @@ ghost use Rattle.rows.specs.Rows.{Low};
 ghost use Rattle.code.specs.Code.{narrow};
 
 use batches::{add_batch, cross_batch, pair_batch};
-use classes::{FEW, Layout, MEMBERS, among, class_size, list_members, rank_class, turn_of};
+use classes::{Layout, among, list_members, rank_class, turn_of, with_table};
 
 // The message to rank u of a helper with these N symbols, batch by batch; the table has the members of the rank's class.
 pub fn message_by(
@@ -26,10 +26,11 @@ pub fn message_by(
     requires { (Ready dead.now g) × (u < length dead.now) × (g.places ≤ length table.now) × (Fronted dead.now (rank_class dead.now u) g.shape.n table.now) × (length symbols.now ≡ size g.shape) × (length message.old ≡ message_size g.shape dead.now) }
     ensures { message.new ≡ helper_message narrow g.shape dead.now u symbols.now }
 {
-    let count = class_size(g, dead);
+    let count = g.members;
     let turn = turn_of(g, dead, u);
     let block = g.batch * g.places;
     let batches = g.batches;
+    // Cut by number: of what is written through `chunks_exact_mut` a proof knows the length alone.
     for b in 0..batches {
         let at = b * block;
         let end = at + block;
@@ -66,13 +67,10 @@ pub fn message_to(g: Layout, dead: &[usize], u: usize, symbols: &[u16], message:
     requires { (Ready dead.now g) × (u < length dead.now) × (length symbols.now ≡ size g.shape) × (length message.old ≡ message_size g.shape dead.now) }
     ensures { message.new ≡ helper_message narrow g.shape dead.now u symbols.now }
 {
-    if g.places <= FEW {
-        let mut few = [0u16; FEW];
-        message_with(g, dead, u, &mut few, symbols, message);
-    } else {
-        let mut table = [0u16; MEMBERS];
-        message_with(g, dead, u, &mut table, symbols, message);
-    }
+    with_table(
+        g.places,
+        &mut |table| message_with(g, dead, u, table, symbols, message),
+    );
 }
 
 // Stores rank u's own pairs at the places of its sums; the members of the rank's class go to a lent table.
@@ -88,11 +86,12 @@ fn pairs_with(
     ensures { (Paired g.shape dead.now u pairs.now symbols.new) × (Fronted dead.now (rank_class dead.now u) g.shape.n table.new) }
 {
     list_members(g, dead, rank_class(g, dead, u), table);
-    let count = class_size(g, dead);
+    let count = g.members;
     let turn = turn_of(g, dead, u);
     let block = g.batch * g.places;
     let double = count * 2;
     let batches = g.batches;
+    // Cut by number: of what is written through `chunks_exact_mut` a proof knows the length alone.
     for b in 0..batches {
         let at = b * block;
         let end = at + block;
@@ -121,12 +120,13 @@ fn cross(
     requires low { (Low narrow.modulus sums.now) × (LowAt narrow.modulus g.shape dead.now u (1 - which) symbols.old) }
     ensures { Crossed narrow g.shape dead.now u which (element sums.now) symbols.old symbols.new }
 {
-    let count = class_size(g, dead);
+    let count = g.members;
     let turn = turn_of(g, dead, u);
     let near = turn * (1 - which);
     let far = turn * which;
     let block = g.batch * g.places;
     let batches = g.batches;
+    // Cut by number: of what is written through `chunks_exact_mut` a proof knows the length alone.
     for b in 0..batches {
         let at = b * block;
         let end = at + block;
@@ -270,6 +270,25 @@ fn recover_rest(
     recover_with(g, dead, v, held, table, received, symbols);
 }
 
+// The whole second step of rank v, with a lent table for members.
+fn second_with(
+    g: Layout,
+    dead: &[usize],
+    v: usize,
+    table: &mut [u16],
+    pairs: &[u16],
+    received: &[u16],
+    symbols: &mut [u16],
+)
+    requires ready { (Ready dead.now g) × (v < length dead.now) × (g.places ≤ length table.old) × (length pairs.now ≡ 2 * message_size g.shape dead.now) }
+    requires received_len { (length received.now ≡ (length dead.now - 1) * message_size g.shape dead.now) × (length symbols.old ≡ size g.shape) }
+    requires low { (Low narrow.modulus pairs.now) × (Low narrow.modulus received.now) }
+    ensures { symbols.new ≡ contents narrow g.shape dead.now v pairs.now received.now }
+{
+    pairs_with(g, dead, v, table, pairs, symbols);
+    recover_rest(g, dead, v, table, received, symbols);
+}
+
 // The whole second step of rank v: all its symbols from its own pairs and the messages that it received.
 pub fn second(
     g: Layout,
@@ -284,13 +303,8 @@ pub fn second(
     requires low { (Low narrow.modulus pairs.now) × (Low narrow.modulus received.now) }
     ensures { symbols.new ≡ contents narrow g.shape dead.now v pairs.now received.now }
 {
-    if g.places <= FEW {
-        let mut few = [0u16; FEW];
-        pairs_with(g, dead, v, &mut few, pairs, symbols);
-        recover_rest(g, dead, v, &mut few, received, symbols);
-    } else {
-        let mut table = [0u16; MEMBERS];
-        pairs_with(g, dead, v, &mut table, pairs, symbols);
-        recover_rest(g, dead, v, &mut table, received, symbols);
-    }
+    with_table(
+        g.places,
+        &mut |table| second_with(g, dead, v, table, pairs, received, symbols),
+    );
 }

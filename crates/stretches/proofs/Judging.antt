@@ -10,7 +10,7 @@ use borrow.Author.Tests.{le-leb, leb-true, ne_eqb, eq-eqb, not-false, ltb-false,
 use lib.Dec.{eqb, ltb}
 use lib.ListN.{length, get_or, take, drop, length-drop}
 use lib.Seq.{get_or-take, get_or-drop, length-take-le}
-use Rattle.lists.specs.Lists.{range, below, picked}
+use Rattle.lists.specs.Lists.{range, picked}
 use Rattle.lists.proofs.Ranges.{every, each}
 use Rattle.lists.proofs.Tests.{neither, below_or_not, true_or_false, all_below_at, at_all_below, at_all}
 use Rattle.lists.proofs.Tables.{tabulate_length, tabulate_at}

@@ -4,6 +4,7 @@ pub mod Runs
 pub mod Walks
 pub mod Alone
 pub mod Touching
+pub mod Pairs
 pub mod Judging
 pub mod Rows
 pub mod Opened

@@ -13,7 +13,7 @@ use Rattle.shape.specs.declared.Shape.{Shape}
 use Rattle.shape.specs.Shape.{size, byte_values}
 use Rattle.shape.proofs.Accepted.{symbols_accepted, symbols_low}
 use Rattle.code.specs.Code.{narrow}
-use Rattle.code.specs.Archive.{symbol, data_of}
+use Rattle.code.specs.Archive.{data_of}
 use Rattle.code.specs.Steps.{data_fits}
 use Rattle.code.proofs.Opening.{byte_fits, fits_byte}
 use Rattle.opening.specs.Steps.{opened, Walked}

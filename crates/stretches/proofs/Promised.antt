@@ -15,9 +15,9 @@ use Rattle.lists.specs.Lists.{rising}
 use Rattle.lists.proofs.Tests.{neither, true_or_false}
 use Rattle.shape.specs.declared.Shape.{Shape}
 use Rattle.shape.specs.declared.Refusal.{Refusal}
-use Rattle.shape.specs.declared.Answer.TheVariants.{Done}
+use Rattle.std.specs.Prelude.{Result, Ok, Err}
 use Rattle.shape.specs.Shape.{size, byte_values}
-use Rattle.shape.specs.Refusals.{refuse, shape_bad, nodes_bad, wrong_length, symbol_bad, number_of, afterwards}
+use Rattle.shape.specs.Refusals.{refuse, shape_bad, nodes_bad, wrong_length, symbol_bad, number_of, afterwards, answer_number, answer_values}
 use Rattle.shape.proofs.Accepted.{passed, shape_accepted, nodes_accepted, symbols_low}
 use Rattle.shape.proofs.Answers.{number_positive, afterwards_done, afterwards_refused}
 use Rattle.code.specs.Code.{narrow}
@@ -26,11 +26,9 @@ use Rattle.code.specs.Refusals.{open_input_refusal, data_refusal, open_refusal}
 use Rattle.code.specs.Promises.{Opens}
 use Rattle.code.proofs.Accepted.{Openable, open_accepted, open_passed}
 use Rattle.code.proofs.Opened.{split_iff, opened_length}
-use Rattle.stretches.specs.declared.Read.{Read}
-use Rattle.stretches.specs.declared.Read.TheVariants.{Symbols, Refused}
 use Rattle.stretches.specs.Stretches.{stretch_count, stretch_start, stretch_length, bytes_before, bytes_wanted, joined, touched, column_list, symbols_read}
 use Rattle.stretches.specs.Refusals.{stretches_bad, past_end, touched_bad, wanted_bad, stretches_size_refusal, stretches_data_refusal, stretches_refusal}
-use Rattle.stretches.specs.Promises.{read_number, read_values, StandsAt, SameTouched, Gives, OpensStretches}
+use Rattle.stretches.specs.Promises.{StandsAt, SameTouched, Gives, OpensStretches}
 use Rattle.stretches.specs.Steps.{Bounded, byte_at, Legible}
 use Rattle.stretches.proofs.Wanted.{wanted_whole, comes_out, out_wanted, before_grows, joined_length, joined_at, wanted_touches, touched_wanted}
 use Rattle.stretches.proofs.Touching.{columns_rising, columns_few}
@@ -145,7 +143,7 @@ module _ (s : Shape) (list symbols : List ℕ) (len : ℕ) (st before columns : 
   number = stretches_refusal narrow s list symbols len st (length before) (length columns)
 
   gives_refused : (cause : Refusal) → number_of cause ≡ stretches_refusal narrow s list symbols len st (length before) (length columns)
-      → Gives s list symbols len st before before columns columns (Refused cause)
+      → Gives s list symbols len st before before columns columns (Err cause)
   gives_refused cause e = record {
     number = e;
     bytes = sym (afterwards_refused before _ cause number e);
@@ -155,7 +153,7 @@ module _ (s : Shape) (list symbols : List ℕ) (len : ℕ) (st before columns : 
 
   gives_done : (after columns_after : List ℕ) → stretches_refusal narrow s list symbols len st (length before) (length columns) ≡ 0
       → after ≡ joined st (data_of narrow s list symbols) → columns_after ≡ column_list s st
-      → Gives s list symbols len st before after columns columns_after (Symbols (symbols_read s st))
+      → Gives s list symbols len st before after columns columns_after (Ok (symbols_read s st))
   gives_done after columns_after e f g = record {
     number = sym e;
     bytes = f ∙ sym (afterwards_done before _ number e);
@@ -202,7 +200,7 @@ module _ (s : Shape) (list symbols other st : List ℕ) (same : SameTouched s st
       ∙ sizes_same s list (length symbols) len st room entries _ _ (λ e.
       let w = sizes_accepted s list (length symbols) len st room entries e in data_same w.count w.shape w.bounded)
 
-  gives_same : (len : ℕ) (before after columns columns_after : List ℕ) (answer : Read) → Gives s list symbols len st before after columns columns_after answer
+  gives_same : (len : ℕ) (before after columns columns_after : List ℕ) (answer : Result ℕ Refusal) → Gives s list symbols len st before after columns columns_after answer
       → Gives s list other len st before after columns columns_after answer
   gives_same len before after columns columns_after answer g = record {
     number = g.number ∙ sym e;
@@ -221,7 +219,7 @@ module _ (s : Shape) (list symbols other st : List ℕ) (same : SameTouched s st
 
 -- ---- where `open` opens
 
-module _ (s : Shape) (list symbols : List ℕ) (len : ℕ) (st before columns room transcript : List ℕ) (o : Opens s list symbols len room transcript Done)
+module _ (s : Shape) (list symbols : List ℕ) (len : ℕ) (st before columns room transcript : List ℕ) (o : Opens s list symbols len room transcript (Ok tt))
     (w : Sized s list (length symbols) len st (length before) (length columns)) where
   abbrev symbols_of : List ℕ
   symbols_of = data_of narrow s list symbols
@@ -288,16 +286,16 @@ module _ (s : Shape) (list symbols : List ℕ) (len : ℕ) (st before columns ro
       back : length (take (stretch_length st m) (drop (stretch_start st m) transcript)) ≡ stretch_length st m
       back = length-take-le (stretch_length st m) (drop (stretch_start st m) transcript) (omega (arith, length-drop (stretch_start st m) transcript, transcript_length, w.few.ends m h))
 
-  stretches_opened : (after columns_after : List ℕ) (answer : Read) → Gives s list symbols len st before after columns columns_after answer
-      → (answer ≡ Symbols (symbols_read s st)) × (after ≡ joined st transcript)
+  stretches_opened : (after columns_after : List ℕ) (answer : Result ℕ Refusal) → Gives s list symbols len st before after columns columns_after answer
+      → (answer ≡ Ok (symbols_read s st)) × (after ≡ joined st transcript)
       × ((m : ℕ) → m < stretch_count st → take (stretch_length st m) (drop (bytes_before st m) after) ≡ take (stretch_length st m) (drop (stretch_start st m) transcript))
   stretches_opened after columns_after answer g =
       let e = g.bytes ∙ afterwards_done before _ _ accepted ∙ joined_is in
       (told answer (g.number ∙ accepted) (g.count ∙ afterwards_done [] _ _ accepted), e, λ m h. ap (λ z. take (stretch_length st m) (drop (bytes_before st m) z)) e ∙ stretch_is m h)
     where
-      told : (answer : Read) → read_number answer ≡ 0 → read_values answer ≡ symbols_read s st ∷ [] → answer ≡ Symbols (symbols_read s st)
-      told (Symbols count) e f = ap Symbols (ap (λ z. get_or z 0 0) f)
-      told (Refused cause) e f = absurd (omega (arith, e, number_positive cause))
+      told : (answer : Result ℕ Refusal) → answer_number answer ≡ 0 → answer_values answer ≡ symbols_read s st ∷ [] → answer ≡ Ok (symbols_read s st)
+      told (Ok count) e f = ap Ok (ap (λ z. get_or z 0 0) f)
+      told (Err cause) e f = absurd (omega (arith, e, number_positive cause))
 
 -- ---- the promise
 
@@ -315,7 +313,7 @@ touched_iff s st column = (to, from)
     from w = rw (← w.stands) (wanted_touches st s (stretch_start st w.m + w.x) (w.m, w.named, (omega arith, omega (arith, w.inside))))
 
 module _ (s : Shape) (list symbols : List ℕ) (len : ℕ) (st before columns : List ℕ) where
-  promised : (after columns_after : List ℕ) (answer : Read) → Gives s list symbols len st before after columns columns_after answer
+  promised : (after columns_after : List ℕ) (answer : Result ℕ Refusal) → Gives s list symbols len st before after columns columns_after answer
       → OpensStretches s list symbols len st before after columns columns_after answer
   promised after columns_after answer g = record {
     gives = g;
@@ -327,30 +325,30 @@ module _ (s : Shape) (list symbols : List ℕ) (len : ℕ) (st before columns : 
   }
 
   pub opens_refused : (cause : Refusal) → number_of cause ≡ stretches_refusal narrow s list symbols len st (length before) (length columns)
-      → (after : List ℕ) → after ≡ before → OpensStretches s list symbols len st before after columns columns (Refused cause)
-  opens_refused cause e after kept = rw kept (promised before columns (Refused cause) (gives_refused s list symbols len st before columns cause e))
+      → (after : List ℕ) → after ≡ before → OpensStretches s list symbols len st before after columns columns (Err cause)
+  opens_refused cause e after kept = rw kept (promised before columns (Err cause) (gives_refused s list symbols len st before columns cause e))
 
   pub opens_done : (after columns_after : List ℕ) (read : ℕ) → stretches_refusal narrow s list symbols len st (length before) (length columns) ≡ 0
       → after ≡ joined st (data_of narrow s list symbols) → columns_after ≡ column_list s st → read ≡ symbols_read s st
-      → OpensStretches s list symbols len st before after columns columns_after (Symbols read)
+      → OpensStretches s list symbols len st before after columns columns_after (Ok read)
   opens_done after columns_after read e f g h =
-      rw h (promised after columns_after (Symbols (symbols_read s st)) (gives_done s list symbols len st before columns after columns_after e f g))
+      rw h (promised after columns_after (Ok (symbols_read s st)) (gives_done s list symbols len st before columns after columns_after e f g))
 
 -- the count of symbols is small
-pub read_small : (s : Shape) (list symbols : List ℕ) (len : ℕ) (st before after columns columns_after : List ℕ) (answer : Read) (count : ℕ) → answer ≡ Symbols count
+pub read_small : (s : Shape) (list symbols : List ℕ) (len : ℕ) (st before after columns columns_after : List ℕ) (answer : Result ℕ Refusal) (count : ℕ) → answer ≡ Ok count
     → OpensStretches s list symbols len st before after columns columns_after answer → count < 2 ^ 32
 unfolding symbols_read
 read_small s list symbols len st before after columns columns_after answer count e w =
-    let none = sym w.gives.number ∙ ap read_number e in
+    let none = sym w.gives.number ∙ ap answer_number e in
     let sized = refusal_passed s list symbols len st (length before) (length columns) none in
-    let read = ap (λ z. get_or z 0 0) (sym (ap read_values e) ∙ w.gives.count ∙ afterwards_done [] _ _ none) in
+    let read = ap (λ z. get_or z 0 0) (sym (ap answer_values e) ∙ w.gives.count ∙ afterwards_done [] _ _ none) in
     omega (arith, read, mul-le-mul_left s.k (columns_few s st), (shape_small s sized.shape).bytes)
 
--- "Symbols in other columns have no effect on the result": two calls whose symbols agree in the touched columns end alike in number, bytes, list and count
-pub calls_alike : (s : Shape) (list symbols other : List ℕ) (len : ℕ) (st before after after_other columns columns_after columns_other : List ℕ) (answer answer_other : Read)
+-- "Ok in other columns have no effect on the result": two calls whose symbols agree in the touched columns end alike in number, bytes, list and count
+pub calls_alike : (s : Shape) (list symbols other : List ℕ) (len : ℕ) (st before after after_other columns columns_after columns_other : List ℕ) (answer answer_other : Result ℕ Refusal)
     → SameTouched s st symbols other → OpensStretches s list symbols len st before after columns columns_after answer
     → OpensStretches s list other len st before after_other columns columns_other answer_other
-    → (read_number answer ≡ read_number answer_other) × (after ≡ after_other) × (columns_after ≡ columns_other) × (read_values answer ≡ read_values answer_other)
+    → (answer_number answer ≡ answer_number answer_other) × (after ≡ after_other) × (columns_after ≡ columns_other) × (answer_values answer ≡ answer_values answer_other)
 calls_alike s list symbols other len st before after after_other columns columns_after columns_other answer answer_other same w v =
     let g = w.alone other same in
     let h = v.gives in

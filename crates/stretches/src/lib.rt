@@ -3,14 +3,14 @@
 // look decides about a run, and only runs of touched columns are looked at.
 #![tactic(auto)]
 
-ghost use Rattle.std.specs.Prelude.{◌≡◌, ◌⊎◌, true, false, ℕ, ◌+◌, ◌-◌, ◌*◌, ◌%◌, ◌^◌, ◌≤◌, ◌<◌, length, get_or};
+ghost use Rattle.std.specs.Prelude.{◌≡◌, ◌⊎◌, true, false, ℕ, ◌+◌, ◌-◌, ◌*◌, ◌%◌, ◌^◌, ◌≤◌, ◌<◌, length, IfSome, get_or};
 ghost use Rattle.lists.specs.Lists.{member, rising};
 ghost use Rattle.shape.specs.Shape.{size};
 ghost use Rattle.shape.specs.Refusals.{shape_bad, wrong_length, answer_number};
 ghost use Rattle.code.specs.Code.{narrow};
 ghost use Rattle.rows.specs.Rows.{most_places, Low, Stored};
 ghost use Rattle.tables.specs.Tables.{table_size, Marks, Table};
-ghost use Rattle.patterns.specs.Patterns.{patterns, Represented};
+ghost use Rattle.patterns.specs.Patterns.{Represented};
 ghost use Rattle.filling.specs.Filling.{InRun};
 ghost use Rattle.opening.specs.Steps.{opened, Factors, Walked};
 ghost use Rattle.stretches.specs.Stretches.{most_stretches, bytes_wanted, touched_columns, column_list};
@@ -24,32 +24,24 @@ use opening::open_row;
 use patterns::{pays, represent};
 use picking::run_multipliers;
 use rows::{RUN, copy, run_from, store};
-use shape::{Answer, MODULUS, Refusal, Shape, nodes_bad, shape_bad, size, symbol_bad, two_to};
+use shape::{MODULUS, Refusal, Shape, nodes_bad, shape_bad, size, symbol_bad, two_to};
 use tables::{FLAGS, TABLE, marks};
 
 // The numbers of "64 stretches".
 const MOST_NUMBERS: usize = 128;
-
-// The symbols read, k times the count of touched columns, or why the call turned back.
-#[derive(Clone, Copy)]
-pub enum Read {
-    Symbols(usize),
-    Refused(Refusal),
-}
 
 // Whether the lengths of the stretches together are not `room`. They are taken off it one by one, so that no sum wraps.
 fn room_wrong(stretches: &[usize], room: usize) -> bool
     requires { length stretches.now ≤ 2 * most_stretches }
     ensures { result ≡ wrong_length room (bytes_wanted stretches.now) }
 {
-    let count = stretches.len() / 2;
     let mut left = room;
-    for m in 0..count {
-        let long = stretches[2 * m + 1];
+    for pair in stretches.chunks_exact(2) {
+        let long = pair[1];
         if left < long {
             return true;
         }
-        left = left - long;
+        left -= long;
     }
     left != 0
 }
@@ -70,13 +62,12 @@ fn past_end(stretches: &[usize], len: usize) -> bool
     requires { length stretches.now ≤ 2 * most_stretches }
     ensures { result ≡ past_end stretches.now len }
 {
-    let count = stretches.len() / 2;
-    for m in 0..count {
-        let start = stretches[2 * m];
+    for pair in stretches.chunks_exact(2) {
+        let start = pair[0];
         if len < start {
             return true;
         }
-        if len - start < stretches[2 * m + 1] {
+        if len - start < pair[1] {
             return true;
         }
     }
@@ -92,26 +83,26 @@ fn judge_sizes(
     stretches: &[usize],
     room: usize,
     entries: usize,
-) -> Answer
+) -> Result<(), Refusal>
     ensures { answer_number result ≡ stretches_size_refusal s list.now held len stretches.now room entries 0 }
 {
     if shape_bad(s) {
-        return Answer::Refused(Refusal::BadShape);
+        return Err(Refusal::BadShape);
     }
     let n = s.n;
     let k = s.k;
     if nodes_bad(n, k, list) {
-        return Answer::Refused(Refusal::BadNodes);
+        return Err(Refusal::BadNodes);
     }
     let each = size(s);
     let due = k * each;
     if (held != due) | (due < len) | stretches_bad(stretches, room) | (entries != each) {
-        return Answer::Refused(Refusal::WrongLength);
+        return Err(Refusal::WrongLength);
     }
     if past_end(stretches, len) {
-        return Answer::Refused(Refusal::PastEnd);
+        return Err(Refusal::PastEnd);
     }
-    Answer::Done
+    Ok(())
 }
 
 // x where it lies behind `at` and before the end, else the end.
@@ -126,11 +117,10 @@ fn next_cut(stretches: &[usize], modulus: usize, at: usize) -> usize
     requires { Bounded stretches.now (2 ^ 32) × (at < modulus) }
     ensures { Uncut stretches.now modulus at result }
 {
-    let count = stretches.len() / 2;
     let mut end = modulus;
-    for m in 0..count {
-        let start = stretches[2 * m];
-        let stop = start + stretches[2 * m + 1];
+    for pair in stretches.chunks_exact(2) {
+        let start = pair[0];
+        let stop = start + pair[1];
         end = nearer(at, start % modulus, nearer(at, stop % modulus, end));
     }
     end
@@ -142,13 +132,6 @@ fn leaving(modulus: usize, rest: usize, first: usize) -> usize
     ensures { Leaving modulus rest first result }
 {
     first + (rest + modulus - first % modulus) % modulus
-}
-
-// The larger of two numbers.
-fn later(x: usize, y: usize) -> usize
-    ensures { (x ≤ result) × (y ≤ result) × ((z : ℕ) → x ≤ z → y ≤ z → result ≤ z) }
-{
-    if x < y { y } else { x }
 }
 
 // b where it lies before the stop and before what was found, else what was found.
@@ -164,15 +147,14 @@ fn next_wanted(stretches: &[usize], modulus: usize, rest: usize, from: usize, mo
     requires { Bounded stretches.now most × (most ≤ 2 ^ 32) × (rest < modulus) × (modulus ≤ 2 ^ 32) × (from ≤ 2 ^ 32) }
     ensures { NextWanted stretches.now modulus rest from most result }
 {
-    let count = stretches.len() / 2;
     let mut found = most;
-    for m in 0..count {
-        let start = stretches[2 * m];
-        let stop = start + stretches[2 * m + 1];
+    for pair in stretches.chunks_exact(2) {
+        let start = pair[0];
+        let stop = start + pair[1];
         if (stop <= from) | (found <= start) {
             continue;
         }
-        let b = leaving(modulus, rest, later(start, from));
+        let b = leaving(modulus, rest, start.max(from));
         found = earlier(b, stop, found);
     }
     found
@@ -214,6 +196,7 @@ fn touched_bad(s: Shape, stretches: &[usize], symbols: &[u16]) -> bool
 {
     let each = size(s);
     let mut at = 0;
+    // The step is a run of columns.
     while at < each {
         let end = next_cut(stretches, each, at);
         if run_touched_bad(s, stretches, at, end, symbols) {
@@ -229,11 +212,7 @@ fn position(list: &[usize], x: usize) -> usize
     requires { member x list.now ≡ true }
     ensures { (result < length list.now) × (get_or list.now result 0 ≡ x) }
 {
-    let mut i = 0;
-    while list[i] != x {
-        i += 1;
-    }
-    i
+    list.iter().position(|&y| x == y).unwrap_or(0)
 }
 
 // The data symbols of a run of bytes from b on, on one node: as they were handed in, or by multipliers.
@@ -278,11 +257,10 @@ fn place_row(
     requires { Bounded stretches.now (2 ^ 32) × Whole stretches.now b (length row.now) × (room ≤ len) × (room ≤ length bytes.old) }
     ensures { (D : ℕ → ℕ) → ((t : ℕ) → t < length row.now → D (b + t) ≡ get_or row.now t 0) → Walked (λ e. D (byte_at stretches.now e)) len room (ComeOut stretches.now (InRun b (length row.now))) bytes.old bytes.new result }
 {
-    let count = stretches.len() / 2;
     let mut at = 0;
-    for m in 0..count {
-        let start = stretches[2 * m];
-        let long = stretches[2 * m + 1];
+    for pair in stretches.chunks_exact(2) {
+        let start = pair[0];
+        let long = pair[1];
         if (b < start) | (start + long <= b) {
             at += long;
             continue;
@@ -318,6 +296,7 @@ fn open_rows(
     let two = two_to(n);
     let most = k * size(s);
     let mut b = next_wanted(stretches, two, a, 0, most);
+    // The step leads to the next wanted byte at a.
     while b < most {
         let row = data_row(s, b, run, list, marked, table, symbols);
         if !place_row(stretches, b, len, room, &row[..run], bytes) {
@@ -334,15 +313,14 @@ fn walk(
     s: Shape,
     list: &[usize],
     marked: [bool; FLAGS],
-    few: bool,
-    source: &[u16],
+    source: Option<&[u16]>,
     symbols: &[u16],
     stretches: &[usize],
     len: usize,
     room: usize,
     bytes: &mut [u8],
 ) -> bool
-    requires { Legible s list.now symbols.now stretches.now × Marks s.n list.now marked × (few ≡ true → Represented s.n marked list.now s.k source.now) × (room ≤ len) × (room ≤ length bytes.old) }
+    requires { Legible s list.now symbols.now stretches.now × Marks s.n list.now marked × IfSome source (λ few. Represented s.n marked list.now s.k few.now) × (room ≤ len) × (room ≤ length bytes.old) }
     ensures { Walked (λ e. opened s list.now symbols.now (byte_at stretches.now e)) len room (AllOut stretches.now) bytes.old bytes.new result }
 {
     let n = s.n;
@@ -351,6 +329,7 @@ fn walk(
     let most = k * size(s);
     let mut table = [0u16; TABLE];
     let mut a = 0;
+    // The step is a run of places of a layer.
     while a < two {
         let end = next_cut(stretches, two, a);
         if most <= next_wanted(stretches, two, a, 0, most) {
@@ -358,7 +337,7 @@ fn walk(
             continue;
         }
         let run = run_from(end, a);
-        run_multipliers(n, k, a, run, list, marked, few, source, &mut table);
+        run_multipliers(n, k, a, run, list, marked, source, &mut table);
         if !open_rows(
             s, a, run, list, marked, &table, symbols, stretches, len, room, bytes,
         ) {
@@ -374,44 +353,20 @@ fn judge_and_store(
     s: Shape,
     list: &[usize],
     marked: [bool; FLAGS],
-    few: bool,
-    source: &[u16],
+    source: Option<&[u16]>,
     symbols: &[u16],
     stretches: &[usize],
     bytes: &mut [u8],
 ) -> bool
-    requires { Legible s list.now symbols.now stretches.now × Marks s.n list.now marked × (few ≡ true → Represented s.n marked list.now s.k source.now) × (length bytes.old ≡ bytes_wanted stretches.now) }
+    requires { Legible s list.now symbols.now stretches.now × Marks s.n list.now marked × IfSome source (λ few. Represented s.n marked list.now s.k few.now) × (length bytes.old ≡ bytes_wanted stretches.now) }
     ensures { OpenedWanted s list.now symbols.now stretches.now bytes.old bytes.new result }
 {
     let len = bytes.len();
-    if !walk(
-        s, list, marked, few, source, symbols, stretches, len, 0, bytes,
-    ) {
+    if !walk(s, list, marked, source, symbols, stretches, len, 0, bytes) {
         return false;
     }
-    walk(
-        s, list, marked, few, source, symbols, stretches, len, len, bytes,
-    );
+    walk(s, list, marked, source, symbols, stretches, len, len, bytes);
     true
-}
-
-// Likewise, with few multipliers worked out first, to pick from.
-fn open_from_few(
-    s: Shape,
-    list: &[usize],
-    marked: [bool; FLAGS],
-    symbols: &[u16],
-    stretches: &[usize],
-    bytes: &mut [u8],
-) -> bool
-    requires { Legible s list.now symbols.now stretches.now × Marks s.n list.now marked × (patterns marked s.n ≤ most_places) × (length bytes.old ≡ bytes_wanted stretches.now) }
-    ensures { OpenedWanted s list.now symbols.now stretches.now bytes.old bytes.new result }
-{
-    let n = s.n;
-    let k = s.k;
-    let mut source = [0u16; TABLE];
-    represent(n, k, list, marked, &mut source);
-    judge_and_store(s, list, marked, true, &source, symbols, stretches, bytes)
 }
 
 // The wanted bytes, by multipliers picked from few where that pays; whether they are none but bytes (cause 7).
@@ -426,12 +381,14 @@ fn open_wanted(
     ensures { OpenedWanted s list.now symbols.now stretches.now bytes.old bytes.new result }
 {
     let n = s.n;
+    let k = s.k;
     let marked = marks(n, list);
-    if pays(n, marked) {
-        return open_from_few(s, list, marked, symbols, stretches, bytes);
+    if !pays(n, marked) {
+        return judge_and_store(s, list, marked, None, symbols, stretches, bytes);
     }
-    let none = [0u16; 1];
-    judge_and_store(s, list, marked, false, &none, symbols, stretches, bytes)
+    let mut few = [0u16; TABLE];
+    represent(n, k, list, marked, &mut few);
+    judge_and_store(s, list, marked, Some(&few), symbols, stretches, bytes)
 }
 
 // The numbers from `first` on, at `count` places of a list from `at` on.
@@ -439,8 +396,8 @@ fn number_columns(first: usize, count: usize, at: usize, columns: &mut [usize])
     requires { (first + count ≤ 2 ^ 32) × (at + count ≤ length columns.old) }
     ensures { Stored at count (◌+◌ first) columns.old columns.new }
 {
-    for i in 0..count {
-        columns[at + i] = first + i;
+    for (i, column) in columns[at..at + count].iter_mut().enumerate() {
+        *column = first + i;
     }
 }
 
@@ -449,10 +406,7 @@ fn clear(at: usize, columns: &mut [usize])
     requires { at ≤ length columns.old }
     ensures { Stored at (length columns.old - at) (λ _. 0) columns.old columns.new }
 {
-    let count = columns.len() - at;
-    for i in 0..count {
-        columns[at + i] = 0;
-    }
+    columns[at..].fill(0);
 }
 
 // The touched columns, rising, a run after the other, and zeros behind them; how many there are.
@@ -465,6 +419,7 @@ fn list_columns(s: Shape, stretches: &[usize], columns: &mut [usize]) -> usize
     let most = k * each;
     let mut count = 0;
     let mut at = 0;
+    // The step is a run of columns.
     while at < each {
         let end = next_cut(stretches, each, at);
         if most <= next_wanted(stretches, each, at, 0, most) {
@@ -479,7 +434,8 @@ fn list_columns(s: Shape, stretches: &[usize], columns: &mut [usize]) -> usize
     count
 }
 
-// Stretches of the transcript of `len` bytes from any k nodes, and the columns that they touch.
+// Stretches of the transcript of `len` bytes from any k nodes, and the columns that they touch; how many symbols were read, k times the count
+// of touched columns.
 pub fn open_stretches(
     s: Shape,
     list: &[usize],
@@ -488,28 +444,18 @@ pub fn open_stretches(
     stretches: &[usize],
     bytes: &mut [u8],
     columns: &mut [usize],
-) -> Read
+) -> Result<usize, Refusal>
     ensures { OpensStretches s list.now symbols.now len stretches.now bytes.old bytes.new columns.old columns.new result }
 {
-    match judge_sizes(
-        s,
-        list,
-        symbols.len(),
-        len,
-        stretches,
-        bytes.len(),
-        columns.len(),
-    ) {
-        Answer::Refused(cause) => Read::Refused(cause),
-        Answer::Done => {
-            if touched_bad(s, stretches, symbols) {
-                return Read::Refused(Refusal::BadSymbol);
-            }
-            if !open_wanted(s, list, symbols, stretches, bytes) {
-                return Read::Refused(Refusal::NoTranscript);
-            }
-            let count = list_columns(s, stretches, columns);
-            Read::Symbols(s.k * count)
-        }
+    let room = bytes.len();
+    let entries = columns.len();
+    judge_sizes(s, list, symbols.len(), len, stretches, room, entries)?;
+    if touched_bad(s, stretches, symbols) {
+        return Err(Refusal::BadSymbol);
     }
+    if !open_wanted(s, list, symbols, stretches, bytes) {
+        return Err(Refusal::NoTranscript);
+    }
+    let count = list_columns(s, stretches, columns);
+    Ok(s.k * count)
 }

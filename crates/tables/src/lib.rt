@@ -1,13 +1,13 @@
 // The multipliers of a run of places, worked out together: for each entry of a column that is not listed, a row for each listed one.
 #![tactic(auto)]
 
-ghost use Rattle.std.specs.Prelude.{◌≡◌, true, false, List, ℕ, ◌+◌, ◌*◌, ◌^◌, ◌<◌, ◌≤◌, length, get_or};
-ghost use Rattle.lists.specs.Lists.{element, rising};
+ghost use Rattle.std.specs.Prelude.{◌≡◌, true, false, not, cond, List, ℕ, ◌+◌, ◌*◌, ◌^◌, ◌<◌, ◌≤◌, length, get_or};
+ghost use Rattle.lists.specs.Lists.{element, member, rising};
 ghost use Rattle.shape.specs.Shape.{most_nodes};
 ghost use Rattle.column.specs.Solving.{most_entries};
 ghost use Rattle.code.specs.Code.{narrow};
 ghost use Rattle.rows.specs.Rows.{most_places, Low, Stored};
-ghost use Rattle.tables.specs.Tables.{points_size, table_size, point_of, opposite_of, node_points, entry_points, PointRows, Columns, Marks, Idle, DifferenceRow, RowsOver, TableOver, TableOf, Table};
+ghost use Rattle.tables.specs.Tables.{flags, points_size, table_size, point_of, opposite_of, node_points, entry_points, PointRows, Columns, Marks, Idle, DifferenceRow, RowsOver, TableOver, TableOf, Table};
 
 use code::point;
 use column::ENTRIES;
@@ -23,16 +23,24 @@ const POINTS: usize = ENTRIES * RUN;
 // A row of multipliers for each node and each listed node.
 pub const TABLE: usize = MOST_NODES * MOST_NODES * RUN;
 
+// Which of n entries are listed, or which are not; the entries from n on have no flag.
+fn flagged(n: usize, list: &[usize], wanted: bool) -> [bool; FLAGS]
+    requires { n ≤ most_entries }
+    ensures { (length result ≡ flags) × ((i : ℕ) → i < n → get_or result i false ≡ cond wanted (member i list.now) (not (member i list.now))) × ((i : ℕ) → n ≤ i → get_or result i false ≡ false) }
+{
+    let mut out = [false; FLAGS];
+    for (i, flag) in out[..n].iter_mut().enumerate() {
+        *flag = listed(list, i) == wanted;
+    }
+    out
+}
+
 // Which of n entries are listed.
 pub fn marks(n: usize, list: &[usize]) -> [bool; FLAGS]
     requires { n ≤ most_entries }
     ensures { Marks n list.now result }
 {
-    let mut out = [false; FLAGS];
-    for i in 0..n {
-        out[i] = listed(list, i);
-    }
-    out
+    flagged(n, list, true)
 }
 
 // Which of n nodes are not listed; the entry behind them is none of them.
@@ -40,30 +48,17 @@ pub fn idle(n: usize, list: &[usize]) -> [bool; FLAGS]
     requires { n ≤ most_nodes }
     ensures { Idle n list.now result }
 {
-    let mut out = [false; FLAGS];
-    for i in 0..n {
-        out[i] = !listed(list, i);
-    }
-    out
+    flagged(n, list, false)
 }
 
-// The points of a node at some a, from a place on.
-fn point_row(node: usize, each: &[usize], run: usize, at: usize, out: &mut [u32])
+// The points of a node at some a, or their opposites, from a place on.
+fn point_row(node: usize, opposite: bool, each: &[usize], run: usize, at: usize, out: &mut [u32])
     requires { (node < most_nodes) × (at + run ≤ length out.old) × (run ≤ length each.now) }
-    ensures { Stored at run (point_of (element each.now) node) out.old out.new }
+    ensures { Stored at run (λ t. cond opposite (opposite_of (element each.now) node t) (point_of (element each.now) node t)) out.old out.new }
 {
-    for t in 0..run {
-        out[at + t] = point(each[t], node);
-    }
-}
-
-// Their opposites.
-fn opposite_row(node: usize, each: &[usize], run: usize, at: usize, out: &mut [u32])
-    requires { (node < most_nodes) × (at + run ≤ length out.old) × (run ≤ length each.now) }
-    ensures { Stored at run (opposite_of (element each.now) node) out.old out.new }
-{
-    for t in 0..run {
-        out[at + t] = MODULUS - point(each[t], node);
+    for (t, x) in out[at..at + run].iter_mut().enumerate() {
+        let p = point(each[t], node);
+        *x = if opposite { MODULUS - p } else { p };
     }
 }
 
@@ -73,7 +68,7 @@ fn point_rows(n: usize, each: &[usize], run: usize, out: &mut [u32])
     ensures { PointRows n (node_points n (element each.now)) run out.new }
 {
     for node in 0..n {
-        point_row(node, each, run, node * RUN, out);
+        point_row(node, false, each, run, node * RUN, out);
     }
 }
 
@@ -115,8 +110,8 @@ fn entry_rows(
     let k = list.len();
     let bottoms = differences(n, run, points, marked, i, i);
     let inverted = inverses(MODULUS, run, bottoms);
-    for j in 0..k {
-        let tops = differences(n, run, points, marked, i, list[j]);
+    for (j, &x) in list.iter().enumerate() {
+        let tops = differences(n, run, points, marked, i, x);
         quotients(MODULUS, run, tops, inverted, (i * k + j) * RUN, table);
     }
 }
@@ -180,7 +175,7 @@ pub fn entry_multipliers(
 {
     let mut points = [0u32; POINTS];
     point_rows(n, each, run, &mut points);
-    opposite_row(i, each, run, n * RUN, &mut points);
+    point_row(i, true, each, run, n * RUN, &mut points);
     let m = n + 1;
     all_rows(m, m, run, &points, list, marked, skipped, table);
 }
@@ -199,8 +194,8 @@ pub fn multipliers(
     ensures { Table n a run list.now m table.new }
 {
     let mut each = [0usize; RUN];
-    for t in 0..run {
-        each[t] = a + t;
+    for (t, x) in each[..run].iter_mut().enumerate() {
+        *x = a + t;
     }
     multipliers_at(n, m, &each, run, list, marked, table);
 }

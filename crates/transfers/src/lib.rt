@@ -9,7 +9,7 @@ ghost use Rattle.classes.specs.Steps.{other_rank};
 ghost use Rattle.transfers.specs.Plan.{transfers, no_transfer, decimal, ending, line, transfer_line, plan_text, plan_room};
 ghost use Rattle.transfers.specs.Promises.{Few, Plannable, Puts};
 
-use shape::{Refusal, Shape, number_of};
+use shape::{Refusal, Shape};
 
 // A message of the plan, by its nodes.
 #[derive(Clone, Copy)]
@@ -84,11 +84,9 @@ fn write_line(numbers: &[usize], text: &mut [u8], at: usize) -> usize
     ensures { Puts (line numbers.now) text.old at text.new result }
 {
     let mut place = at;
-    let mut i = 0;
-    while i < numbers.len() {
-        place = write_decimal(numbers[i], text, place);
-        i += 1;
-        text[place] = ending(numbers.len() - i);
+    for (i, &number) in numbers.iter().enumerate() {
+        place = write_decimal(number, text, place);
+        text[place] = ending(numbers.len() - (i + 1));
         place += 1;
     }
     place
@@ -99,7 +97,7 @@ pub fn write_refusal(cause: Refusal, text: &mut [u8]) -> usize
     requires { plan_room ≤ length text.old }
     ensures { Puts (line (number_of cause ∷ [])) text.old 0 text.new result }
 {
-    let numbers = [number_of(cause)];
+    let numbers = [usize::from(cause)];
     write_line(&numbers, text, 0)
 }
 
@@ -117,12 +115,10 @@ fn write_transfers(
     let h = dead.len();
     let count = h * (helpers.len() + (h - 1));
     let mut place = at;
-    let mut e = 0;
-    while e < count {
+    for e in 0..count {
         let t = transfer_at(dead, helpers, e);
         let numbers = [t.sender, t.receiver, symbols];
         place = write_line(&numbers, text, place);
-        e += 1;
     }
     place
 }

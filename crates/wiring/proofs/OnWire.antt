@@ -10,7 +10,7 @@ use lib.Seq.{drop-drop}
 use Rattle.lists.specs.Lists.{piece}
 use Rattle.lists.proofs.Buffers.{part_of}
 use Rattle.shape.specs.declared.Shape.{Shape}
-use Rattle.shape.specs.Shape.{size, most_nodes}
+use Rattle.shape.specs.Shape.{most_nodes}
 use Rattle.shape.proofs.Accepted.{shape_accepted, most_size}
 use Rattle.code.specs.Code.{narrow}
 use Rattle.classes.specs.declared.Layout.{Layout}

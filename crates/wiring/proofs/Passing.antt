@@ -30,7 +30,7 @@ use Rattle.batches.proofs.Batches.{turned_is}
 use Rattle.steps.specs.Storing.{sum_symbol, Paired}
 use Rattle.steps.proofs.Storing.{firsts_own, others_own, first_other}
 use Rattle.steps.proofs.Turned.{turn_of, turn_is, turned_place}
-use Rattle.solving.specs.Solving.{slot_place, handed, own, Places}
+use Rattle.solving.specs.Solving.{slot_place, handed, Places}
 use Rattle.solving.proofs.Puts.{put_none, put_batch, put_run}
 use Rattle.solving.proofs.Sending.{slots_apart, own_pair_lem}
 use Rattle.wiring.specs.Wires.{inwards, to_rank, Wired, Sent, own_place, Offsets, OnWire}

@@ -45,8 +45,8 @@ fn messages_to(
     list_members(g, dead, rank_class(g, dead, u), class);
     let share = g.share;
     let full = size(g.shape);
-    for j in 0..helpers.len() {
-        let from = helpers[j] * full;
+    for (j, &helper) in helpers.iter().enumerate() {
+        let from = helper * full;
         let to = from + full;
         let at = j * share;
         let end = at + share;
@@ -75,7 +75,8 @@ pub fn send(
     }
 }
 
-// Where the own symbols of a run of sums stand in their batch: at the first places of the sums (which = 0), or at the others (1).
+// Where the own symbols of a run of sums stand in their batch: at the first places of the sums (which = 0), or at the others (1). `which` is a
+// factor of the turn, and so a number.
 fn offsets(
     g: Layout,
     dead: &[usize],
@@ -90,8 +91,8 @@ fn offsets(
 {
     let turn = turn_of(g, dead, u) * which;
     let mut out = [0usize; RUN];
-    for t in 0..run {
-        out[t] = class[first + t] as usize ^ turn;
+    for (t, &member) in class[first..first + run].iter().enumerate() {
+        out[t] = usize::from(member) ^ turn;
     }
     out
 }
@@ -199,6 +200,7 @@ fn first_on_wire(
     let count = class_size(g, dead);
     let mut table = [0u16; TABLE];
     let mut first = 0;
+    // The step is the run's length, which is less at the end.
     while first < count {
         let run = run_from(count, first);
         run_table(g, dead, helpers, u, class, first, run, &mut table);
@@ -225,9 +227,8 @@ pub fn exchange(
     ensures { Exchanged g.shape dead.now helpers.now nodes.old nodes.new wire.old wire.new }
 {
     let full = size(g.shape);
-    let ranks = dead.len();
-    for u in 0..ranks {
-        let at = dead[u] * full;
+    for (u, &sender) in dead.iter().enumerate() {
+        let at = sender * full;
         let end = at + full;
         first_on_wire(g, dead, helpers, told, u, class, &mut nodes[at..end], wire);
     }
@@ -248,9 +249,8 @@ pub fn renew(
     let full = size(g.shape);
     let base = dead.len() * told;
     let part = (dead.len() - 1) * g.share;
-    let count = dead.len();
-    for u in 0..count {
-        let at = dead[u] * full;
+    for (u, &receiver) in dead.iter().enumerate() {
+        let at = receiver * full;
         let end = at + full;
         let from = base + u * part;
         let to = from + part;

@@ -13,15 +13,15 @@ ghost use Rattle.writing.specs.Steps.{nothing, DataStored};
 
 use code::node_numbers;
 use filling::fill;
-use shape::{Answer, Refusal, Shape, shape_bad, size};
+use shape::{Refusal, Shape, shape_bad, size};
 
 // The bytes of a transcript, a symbol each: "Transcript byte number b stands on node b div N at place b mod N."
 fn store_transcript(transcript: &[u8], nodes: &mut [u16])
     requires { length transcript.now ≤ length nodes.old }
     ensures { Stored 0 (length transcript.now) (element transcript.now) nodes.old nodes.new }
 {
-    for b in 0..transcript.len() {
-        nodes[b] = transcript[b] as u16;
+    for (b, symbol) in nodes[..transcript.len()].iter_mut().enumerate() {
+        *symbol = u16::from(transcript[b]);
     }
 }
 
@@ -30,9 +30,7 @@ fn clear(at: usize, count: usize, nodes: &mut [u16])
     requires { at + count ≤ length nodes.old }
     ensures { Stored at count nothing nodes.old nodes.new }
 {
-    for i in 0..count {
-        nodes[at + i] = 0;
-    }
+    nodes[at..at + count].fill(0);
 }
 
 // The data nodes, of `due` symbols in all: "The rest of nodes 0 to k−1 is 0."
@@ -46,39 +44,37 @@ fn store_data(due: usize, transcript: &[u8], nodes: &mut [u16])
 }
 
 // Causes 1 and 4 of writing into a buffer of `room` symbols, in this order.
-fn judge_write(s: Shape, transcript: &[u8], room: usize) -> Answer
+fn judge_write(s: Shape, transcript: &[u8], room: usize) -> Result<(), Refusal>
     ensures { answer_number result ≡ write_refusal s transcript.now room }
 {
     if shape_bad(s) {
-        return Answer::Refused(Refusal::BadShape);
+        return Err(Refusal::BadShape);
     }
     let n = s.n;
     let k = s.k;
     let places = size(s);
     if (k * places < transcript.len()) | (room != n * places) {
-        return Answer::Refused(Refusal::WrongLength);
+        return Err(Refusal::WrongLength);
     }
-    Answer::Done
+    Ok(())
 }
 
 // All n nodes from the data nodes.
-fn write_all(s: Shape, transcript: &[u8], nodes: &mut [u16]) -> Answer
+fn write_all(s: Shape, transcript: &[u8], nodes: &mut [u16])
     requires { write_refusal s transcript.now (length nodes.old) ≡ 0 }
-    ensures { (result ≡ Answer.Done) × (nodes.new ≡ written narrow s transcript.now) }
+    ensures { nodes.new ≡ written narrow s transcript.now }
 {
     let k = s.k;
     let all = node_numbers();
     store_data(k * size(s), transcript, nodes);
     fill(s, &all[..k], nodes);
-    Answer::Done
 }
 
 // The archive of a transcript.
-pub fn write(s: Shape, transcript: &[u8], nodes: &mut [u16]) -> Answer
+pub fn write(s: Shape, transcript: &[u8], nodes: &mut [u16]) -> Result<(), Refusal>
     ensures { Writes s transcript.now nodes.old nodes.new result }
 {
-    match judge_write(s, transcript, nodes.len()) {
-        Answer::Refused(cause) => Answer::Refused(cause),
-        Answer::Done => write_all(s, transcript, nodes),
-    }
+    judge_write(s, transcript, nodes.len())?;
+    write_all(s, transcript, nodes);
+    Ok(())
 }

@@ -7,6 +7,3 @@ use Rattle.arrival.proofs.nodes_wrong.Given as goal
 
 abbrev pub invariant-loop-j : goal.invariant-loop-j
 invariant-loop-j l = (l.j ≤ length l.nodes) × (wrong l.helpers l.nodes ≡ wrong l.helpers (drop l.j l.nodes))
-
-abbrev pub decreases-loop-j : goal.decreases-loop-j
-decreases-loop-j l = length l.nodes - l.j

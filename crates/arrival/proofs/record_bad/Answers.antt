@@ -12,5 +12,5 @@ returns-then-most-heard_count c most e h = sym (record_over _ _ _ (omega (arith,
 
 pub returns : goal.returns
 returns c most e h =
-    c.nodes_wrong.ensures ∙ ap (wrong _) c.counted-part.ensures.nodes
+    c.nodes_wrong.ensures ∙ ap (wrong _) c.heard_nodes.ensures
     ∙ sym (record_by most _ _ (omega (arith, c.if-most-heard_count.false, c.heard_count.ensures)))

@@ -1,49 +1,24 @@
 -- `batches::cross_batch` meets its contract. Assumes nothing.
-use mathlib.Core.Path.{◌≡◌, refl, sym, ap, ◌∙◌}
-use Prim.Native.Nat.{◌-◌, ◌<◌}
+use mathlib.Core.Path.{◌≡◌, sym, ap, ◌∙◌}
+use Prim.Native.Nat.{◌<◌}
 use native.Mathlib.Omega.{arith}
 use lib.Bits.{bit_xor}
 use borrow.Author.Tests.{eqb-true}
 use lib.ListN.{length, get_or}
-use Rattle.lists.specs.Lists.{range}
 use Rattle.lists.proofs.Tests.{both}
 use Rattle.code.specs.Code.{narrow}
 use Rattle.field.specs.Residues.{minus}
 use Rattle.batches.specs.Batches.{turned, left_in}
-use Rattle.batches.proofs.Batches.{turned_is, stored_none, stored_more, row_room}
-use borrow.Author.Rules.{rules}
+use Rattle.batches.proofs.Batches.{turned_is, near_in, far_in, stored_more, row_room}
 use Rattle.batches.proofs.cross_batch.Goals as goal
-use Rattle.batches.proofs.cross_batch.Goals.{In-loop-x, Then-every-near}
+use Rattle.batches.proofs.cross_batch.Goals.{In-loop-x}
 
--- every a is a member, and the near places are the first
-whole : (c : Then-every-near) → let a = c.args in (a.near ≡ 0) × (a.members.now ≡ range 0 (length a.members.now))
-whole c = let b = both _ _ c.if-every-near.true in (eqb-true _ _ b.1, c.requires.apart.0 b.0)
-
-pub cross_rows-requires : goal.cross_rows-requires
-cross_rows-requires c =
+pub cross_rows-requires-clause-apart : goal.cross_rows-requires-clause-apart
+cross_rows-requires-clause-apart c =
     let p = c.requires in
-    let w = whole (goal.at.cross_rows-requires c).Then-every-near in
-    let A = rw (w.0, w.1) at p.apart.1 in
-    record { apart = (rw p.apart.2 A, rw p.apart.2 (row_room _ A)); low = (p.low.0, rw p.apart.2 (rw (w.0, w.1) at p.low.1)) }
-
-pub returns-then-every-near : goal.returns-then-every-near
-returns-then-every-near c =
-    let p = c.requires in
-    let w = whole (goal.at.returns-then-every-near c).Then-every-near in
-    rw w.0 (rw (p.apart.2, ← w.1) at c.cross_rows.ensures)
-
-pub loop-x-init : goal.loop-x-init
-loop-x-init c = (search rules, refl, stored_none _ _ _)
-
--- both places of the sum are in the batch
-here : (c : In-loop-x) →
-    let a = c.args in
-    let x = c.loop-x.x in
-    (bit_xor (get_or a.members.now x 0) a.near < length c.loop-x.symbols) × (bit_xor (get_or a.members.now x 0) a.far < length c.loop-x.symbols)
-here c =
-    let x = c.loop-x.x in
-    let l : x < length c.args.members.now = omega arith in
-    rw c.loop-x.invariant.2.long (rw turned_is at (c.requires.apart.1.near_low x l), rw turned_is at (c.requires.apart.1.far_low x l))
+    let b = both _ _ c.if-every-near.true in
+    let A = rw (eqb-true _ _ b.1, p.apart.0 b.0) at p.apart.1 in
+    (rw p.apart.2 A, rw p.apart.2 (row_room _ A))
 
 -- what stands at the near place was there before
 near_kept : (c : In-loop-x) →
@@ -55,16 +30,13 @@ near_kept c =
     let l = c.loop-x in
     let k : l.x < length a.members.now = omega arith in
     ap (λ z. get_or l.symbols z 0) (sym (turned_is a.members.now a.near l.x))
-    ∙ l.invariant.2.rest (turned a.members.now a.near l.x) (λ x h z. c.requires.apart.1.apart l.x x k (omega arith) (sym z))
-
-pub overflow_cast-a : goal.overflow_cast-a
-overflow_cast-a c = omega (arith, c.type_inv.members c.loop-x.x)
+    ∙ l.invariant.rest (turned a.members.now a.near l.x) (λ x h z. c.requires.apart.1.apart l.x x k (omega arith) (sym z))
 
 pub offset_bounds-symbols-a : goal.offset_bounds-symbols-a
-offset_bounds-symbols-a c = omega (arith, (here (goal.at.offset_bounds-symbols-a c).In-loop-x).0)
+offset_bounds-symbols-a c = omega (arith, near_in c.requires.apart.1 c.loop-x.x (omega arith))
 
 pub bounds-symbols-a : goal.bounds-symbols-a
-bounds-symbols-a c = (here (goal.at.bounds-symbols-a c).In-loop-x).0
+bounds-symbols-a c = omega (arith, near_in c.requires.apart.1 c.loop-x.x (omega arith), c.loop-x.invariant.long)
 
 pub difference-requires : goal.difference-requires
 difference-requires c =
@@ -72,10 +44,10 @@ difference-requires c =
     (i.requires.low.0.at i.loop-x.x, rw (near_kept i) (i.requires.low.1.each i.loop-x.x (omega arith)))
 
 pub offset_bounds-symbols-a-in-loop-x : goal.offset_bounds-symbols-a-in-loop-x
-offset_bounds-symbols-a-in-loop-x c = omega (arith, (here (goal.at.offset_bounds-symbols-a-in-loop-x c).In-loop-x).1)
+offset_bounds-symbols-a-in-loop-x c = omega (arith, far_in c.requires.apart.1 c.loop-x.x (omega arith))
 
 pub bounds-symbols-a-in-loop-x : goal.bounds-symbols-a-in-loop-x
-bounds-symbols-a-in-loop-x c = (here (goal.at.bounds-symbols-a-in-loop-x c).In-loop-x).1
+bounds-symbols-a-in-loop-x c = omega (arith, far_in c.requires.apart.1 c.loop-x.x (omega arith), c.loop-x.invariant.long)
 
 pub loop-x-preserved : goal.loop-x-preserved
 unfolding left_in
@@ -83,21 +55,7 @@ loop-x-preserved c =
     let l = c.loop-x in
     let a = c.args in
     let A = c.requires.apart.1 in
-    let k : l.x < length a.members.now = omega arith in (
-      search rules,
-      refl,
-      stored_more (turned a.members.now a.far) (left_in narrow a.members.now a.near a.sums.now a.symbols.now) a.symbols.now l.x _ _ l.symbols l.invariant.2
-          (sym (turned_is _ _ _)) (rw (← l.invariant.2.long) (here (goal.at.loop-x-preserved c).In-loop-x).1)
-          (λ x h z. let e : x ≡ l.x = A.own x l.x (omega arith) k z in omega arith)
-          (c.difference.ensures
-          ∙ ap (minus narrow.modulus (get_or a.sums.now l.x 0)) (near_kept (goal.at.loop-x-preserved c).In-loop-x)),
-    )
-
-pub shape_of-symbols : goal.shape_of-symbols
-shape_of-symbols c = c.loop-x.invariant.2.long
-
-pub returns : goal.returns
-returns c =
-    let l = c.loop-x in
-    let e : l.x ≡ length c.args.members.now = omega arith in
-    rw (← e) l.invariant.2
+    let k : l.x < length a.members.now = omega arith in
+    stored_more (turned a.members.now a.far) (left_in narrow a.members.now a.near a.sums.now a.symbols.now) a.symbols.now l.x _ _ l.symbols l.invariant
+    (sym (turned_is _ _ _)) (far_in A l.x k) (λ x h z. let e : x ≡ l.x = A.own x l.x (omega arith) k z in omega arith)
+    (c.difference.ensures ∙ ap (minus narrow.modulus (get_or a.sums.now l.x 0)) (near_kept (goal.at.loop-x-preserved c).In-loop-x))

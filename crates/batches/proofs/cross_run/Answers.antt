@@ -7,21 +7,6 @@ use Rattle.code.specs.Code.{narrow}
 use Rattle.batches.proofs.Batches.{row_far, row_part, row_crossed}
 use Rattle.batches.proofs.cross_run.Goals as goal
 
-pub overflow_add-end : goal.overflow_add-end
-overflow_add-end c = let p = c.requires in omega (arith, p.apart.1)
-
-pub offset_bounds-sums-x : goal.offset_bounds-sums-x
-offset_bounds-sums-x c = let p = c.requires in omega (arith, p.apart.1)
-
-pub slice_bounds-differences-end : goal.slice_bounds-differences-end
-slice_bounds-differences-end c = let p = c.requires in omega (arith, p.apart.1)
-
-pub offset_bounds-symbols-x : goal.offset_bounds-symbols-x
-offset_bounds-symbols-x c = let p = c.requires in omega (arith, p.apart.1, p.apart.2)
-
-pub slice_bounds-differences-end-2 : goal.slice_bounds-differences-end-2
-slice_bounds-differences-end-2 c = let p = c.requires in omega (arith, p.apart.1, p.apart.2)
-
 pub differences-requires : goal.differences-requires
 differences-requires c =
     let p = c.requires in

@@ -1,6 +1,4 @@
 -- `batches::fold_rows` meets its contract. Assumes nothing.
-use mathlib.Core.Path.{◌≡◌}
-use Prim.Native.Nat.{◌-◌, ◌≤◌}
 use lib.ListN.{length}
 use Rattle.lists.specs.Lists.{range}
 use Rattle.code.specs.Code.{narrow}
@@ -8,7 +6,4 @@ use Rattle.batches.specs.Batches.{added_in, Remain}
 use Rattle.batches.proofs.fold_rows.Given as goal
 
 abbrev pub invariant-loop-x : goal.invariant-loop-x
-invariant-loop-x l = (l.x ≤ l.x-end) × (l.x-end ≡ length l.initial.sums) × (length l.sums ≡ length l.initial.sums) × Remain narrow.modulus l.x (added_in narrow (range 0 (length l.initial.sums)) l.turn l.symbols) l.sums
-
-abbrev pub decreases-loop-x : goal.decreases-loop-x
-decreases-loop-x l = l.x-end - l.x
+invariant-loop-x l = Remain narrow.modulus l.x (added_in narrow (range 0 (length l.initial.sums)) l.turn l.symbols) l.sums

@@ -1,22 +1,19 @@
 -- `batches::pair_batch` meets its contract. Assumes nothing.
 use mathlib.Core.Path.{◌≡◌, refl, sym, ap}
-use Prim.Native.Nat.{ℕ, ◌+◌, ◌-◌, ◌*◌, ◌<◌}
+use Prim.Native.Nat.{ℕ, ◌+◌, ◌*◌, ◌<◌}
 use native.Mathlib.Omega.{arith}
 use lib.Bits.{bit_xor}
 use lib.ListN.{length, get_or, length-set}
-use Rattle.batches.proofs.Batches.{turned_is, turned_none, paired_none, paired_more, paired_two}
+use Rattle.batches.proofs.Batches.{turned_is, turned_none, first_in, far_in, paired_more, paired_two}
 use borrow.Author.Rules.{rules}
 use Rattle.batches.proofs.pair_batch.Goals as goal
 use Rattle.batches.proofs.pair_batch.Goals.{At-loop-x, In-loop-x, Then-x-count}
-
-pub loop-x-init : goal.loop-x-init
-loop-x-init c = (search rules, refl, refl, paired_none _ _ _ _)
 
 -- both places of a member's sum are in the batch
 places : (c : At-loop-x) → (x : ℕ) → x < length c.args.members.now →
     let a = c.args in
     (get_or a.members.now x 0 < length c.loop-x.symbols) × (bit_xor (get_or a.members.now x 0) a.turn < length c.loop-x.symbols)
-places c x l = rw c.loop-x.invariant.2 (rw turned_none at (c.requires.0.near_low x l), rw turned_is at (c.requires.0.far_low x l))
+places c x l = rw c.loop-x.invariant.2 (first_in c.requires.0 x l, far_in c.requires.0 x l)
 
 -- of two members at a time
 here : (c : In-loop-x) →
@@ -40,20 +37,8 @@ last : (c : Then-x-count) →
     (get_or a.members.now l.x 0 < length l.symbols) × (bit_xor (get_or a.members.now l.x 0) a.turn < length l.symbols)
 last c = places (goal.at.Then-x-count c).At-loop-x c.loop-x.x (omega arith)
 
-pub overflow_cast-a : goal.overflow_cast-a
-overflow_cast-a c = omega (arith, c.type_inv.members c.loop-x.x)
-
-pub overflow_cast-b : goal.overflow_cast-b
-overflow_cast-b c = omega (arith, c.type_inv.members (c.loop-x.x + 1))
-
-pub offset_bounds-symbols-a : goal.offset_bounds-symbols-a
-offset_bounds-symbols-a c = omega (arith, (here (goal.at.offset_bounds-symbols-a c).In-loop-x).0)
-
 pub bounds-symbols-a : goal.bounds-symbols-a
 bounds-symbols-a c = (here (goal.at.bounds-symbols-a c).In-loop-x).0
-
-pub offset_bounds-symbols-b : goal.offset_bounds-symbols-b
-offset_bounds-symbols-b c = omega (arith, (here (goal.at.offset_bounds-symbols-b c).In-loop-x).2)
 
 pub bounds-symbols-b : goal.bounds-symbols-b
 bounds-symbols-b c = simp length-set (here (goal.at.bounds-symbols-b c).In-loop-x).2
@@ -81,12 +66,6 @@ loop-x-preserved c =
           (sym (turned_is _ _ _)) (pair _ _ (omega arith)) refl (pair _ _ (omega arith)) (pair _ _ (omega arith)),
     )
 
-pub overflow_cast-a-then-x-count : goal.overflow_cast-a-then-x-count
-overflow_cast-a-then-x-count c = omega (arith, c.type_inv.members c.loop-x.x)
-
-pub offset_bounds-symbols-a-then-x-count : goal.offset_bounds-symbols-a-then-x-count
-offset_bounds-symbols-a-then-x-count c = omega (arith, (last (goal.at.offset_bounds-symbols-a-then-x-count c).Then-x-count).0)
-
 pub bounds-symbols-a-then-x-count : goal.bounds-symbols-a-then-x-count
 bounds-symbols-a-then-x-count c = (last (goal.at.bounds-symbols-a-then-x-count c).Then-x-count).0
 
@@ -103,9 +82,3 @@ returns-then-x-count c =
     rw (← e)
     (paired_more _ _ _ l.x _ _ _ _ _ l.symbols c.requires.0 c.requires.1 l.invariant.3 (omega arith) l.invariant.2 (sym (turned_none _ _)) (sym (turned_is _ _ _))
     (ap (λ z. get_or c.args.pairs.now z 0) (let z : l.x * 2 ≡ l.x * 2 + 0 = omega arith in z)) refl)
-
-pub returns-else-x-count : goal.returns-else-x-count
-returns-else-x-count c =
-    let l = c.loop-x in
-    let e : l.x ≡ length c.args.members.now = omega arith in
-    rw (← e) l.invariant.3

@@ -1,5 +1,5 @@
 -- `checking::first_high` meets its contract: no data symbol before this one is above 255. Assumes nothing.
-use mathlib.Core.Path.{sym, ap, ◌∙◌}
+use mathlib.Core.Path.{sym, ◌∙◌}
 use Prim.Native.Nat.{◌-◌, ◌*◌, ◌≤◌, ◌<◌}
 use native.Mathlib.Omega.{arith}
 use native.Mathlib.Nat.{mul-le-mul}
@@ -11,9 +11,9 @@ use Rattle.shape.specs.Shape.{most_nodes, size}
 use Rattle.shape.proofs.Accepted.{most_size}
 use Rattle.code.proofs.Accepted.{Checkable, check_accepted}
 use Rattle.checking.proofs.Meeting.{check_shape}
-use Rattle.checking.proofs.Data.{front_low, low_when, high_when}
+use Rattle.checking.proofs.Data.{front_low, low_when, low_seen, high_seen}
 use Rattle.checking.proofs.first_high.Goals as goal
-use Rattle.checking.proofs.first_high.Goals.{After-size-each, Start, Then-nodes-e-ge-BYTE_VALUES}
+use Rattle.checking.proofs.first_high.Goals.{After-size-each, Start, Then-symbol-ge-BYTE_VALUES}
 
 able : (c : Start) → Checkable c.args.s c.args.nodes.now
 able c = check_accepted _ _ c.requires
@@ -36,8 +36,8 @@ size-each-requires c = check_shape _ _ c.requires
 pub overflow_mul-count : goal.overflow_mul-count
 overflow_mul-count c = omega (arith, (front c).1)
 
-pub slice_bounds-symbol_bad-end : goal.slice_bounds-symbol_bad-end
-slice_bounds-symbol_bad-end c = sym (length-take-le _ _ (front c).0)
+pub slice_bounds-data-end : goal.slice_bounds-data-end
+slice_bounds-data-end c = sym (length-take-le _ _ (front c).0)
 
 pub returns-then-not-symbol_bad : goal.returns-then-not-symbol_bad
 returns-then-not-symbol_bad c =
@@ -47,19 +47,10 @@ returns-then-not-symbol_bad c =
 pub loop-e-init : goal.loop-e-init
 loop-e-init c = (search rules, λ x h. absurd (omega arith))
 
-pub offset_bounds-nodes-e : goal.offset_bounds-nodes-e
-offset_bounds-nodes-e c = omega (arith, c.loop-e-test.true, (front (goal.at.offset_bounds-nodes-e c).After-size-each).1)
-
-pub bounds-nodes-e : goal.bounds-nodes-e
-bounds-nodes-e c = omega (arith, c.loop-e-test.true, (front (goal.at.bounds-nodes-e c).After-size-each).0)
-
-pub overflow_cast-nodes : goal.overflow_cast-nodes
-overflow_cast-nodes c = omega (arith, c.type_inv.nodes c.loop-e.e)
-
 -- a node has symbols
-some : (c : Then-nodes-e-ge-BYTE_VALUES) → 0 < c.size-each.result
+some : (c : Then-symbol-ge-BYTE_VALUES) → 0 < c.size-each.result
 some c =
-    rw c.size-each.ensures (able (goal.at.Then-nodes-e-ge-BYTE_VALUES c).Start).shaped.size_low
+    rw c.size-each.ensures (able (goal.at.Then-symbol-ge-BYTE_VALUES c).Start).shaped.size_low
 
 pub nonzero_div-result : goal.nonzero_div-result
 nonzero_div-result c = some c
@@ -67,19 +58,14 @@ nonzero_div-result c = some c
 pub nonzero_rem-result : goal.nonzero_rem-result
 nonzero_rem-result c = some c
 
-pub returns-then-nodes-e-ge-BYTE_VALUES : goal.returns-then-nodes-e-ge-BYTE_VALUES
-returns-then-nodes-e-ge-BYTE_VALUES c =
-    rw c.size-each.ensures (high_when _ _ _ (rw (← c.size-each.ensures) c.loop-e-test.true) c.loop-e.invariant.1 c.if-nodes-e-ge-BYTE_VALUES.true)
-
-pub overflow_step-e : goal.overflow_step-e
-overflow_step-e c =
-    omega (arith, c.loop-e-test.true, (front (goal.at.overflow_step-e c).After-size-each).1)
+pub returns-then-symbol-ge-BYTE_VALUES : goal.returns-then-symbol-ge-BYTE_VALUES
+returns-then-symbol-ge-BYTE_VALUES c =
+    high_seen _ _ _ c.size-each.ensures (front (goal.at.returns-then-symbol-ge-BYTE_VALUES c).After-size-each).0 _ c.loop-e-test.true c.loop-e.invariant.1 c.if-symbol-ge-BYTE_VALUES.true
 
 pub loop-e-preserved : goal.loop-e-preserved
 loop-e-preserved c =
-    (search rules, below_more _ _ c.loop-e.invariant.1 c.if-nodes-e-ge-BYTE_VALUES.false)
+    (search rules, below_more _ _ c.loop-e.invariant.1 c.if-symbol-ge-BYTE_VALUES.false)
 
 pub returns : goal.returns
 returns c =
-    let all = ap (λ u. c.args.s.k * u) c.size-each.ensures in
-    low_when _ _ (λ x h. c.loop-e.invariant.1 x (omega (arith, all)))
+    low_seen _ _ _ c.size-each.ensures (front (goal.at.returns c).After-size-each).0 _ c.loop-e-test.false c.loop-e.invariant.1

@@ -27,8 +27,8 @@ inner c = able (goal.at.In-loop-a c).Start
 -- the place lies within a node, and a node has few places
 place : (c : In-loop-a) →
     let two = c.two_to-two.result in
-    c.equations.layer * two + c.loop-a.a < c.args.s.layers * two
-place c = digits_lt c.equations-test.true c.loop-a-test.true
+    c.loop-layer.layer * two + c.loop-a.a < c.args.s.layers * two
+place c = digits_lt c.loop-layer-test.true c.loop-a-test.true
 
 places : (c : In-loop-a) →
     c.args.s.layers * c.two_to-two.result ≤ most_size
@@ -41,14 +41,14 @@ two_to-two-requires c = (able (goal.at.two_to-two-requires c).Start).shaped.n_hi
 pub overflow_sub-r : goal.overflow_sub-r
 overflow_sub-r c = omega (arith, (able (goal.at.overflow_sub-r c).Start).shaped.k_high)
 
-pub equations-init : goal.equations-init
-equations-init c = (refl, search rules, λ x h. absurd (omega arith))
+pub loop-layer-init : goal.loop-layer-init
+loop-layer-init c = (search rules, λ x h. absurd (omega arith))
 
 pub loop-a-init : goal.loop-a-init
 loop-a-init c =
-    let l = c.equations in
+    let l = c.loop-layer in
     let two = c.two_to-two.ensures in
-    (l.invariant.0, rw two c.requires.1.high, rw two (met_skip _ _ l.layer _ c.equations-test.true c.requires.1 (rw two at l.invariant.2)))
+    (rw two c.requires.1.high, rw two (met_skip _ _ l.layer _ c.loop-layer-test.true c.requires.1 (rw two at l.invariant.1)))
 
 pub points_at-points-requires : goal.points_at-points-requires
 points_at-points-requires c = (inner c).shaped.n_high
@@ -94,13 +94,13 @@ parity-sums-requires c =
     (omega arith, omega (arith, high), rw (length-take-le _ _ w.0) (omega (arith, high)), length-take-le _ _ w.1 ∙ sym (length-take-le _ _ w.0))
 
 pub loop-t-init : goal.loop-t-init
-loop-t-init c = let l = c.loop-a in (l.invariant.0, search rules, λ x h. l.invariant.2 x (omega arith))
+loop-t-init c = let l = c.loop-a in (search rules, λ x h. l.invariant.1 x (omega arith))
 
 -- a sum is that of its equation
 sum_is : (c : In-loop-t) →
     let a = c.args in
     element c.parity-sums.result c.loop-t.t
-    ≡ equation narrow a.s a.nodes.now (c.equations.layer * 2 ^ a.s.n + c.loop-a.a) c.loop-t.t
+    ≡ equation narrow a.s a.nodes.now (c.loop-layer.layer * 2 ^ a.s.n + c.loop-a.a) c.loop-t.t
 unfolding size
 sum_is c =
     let l = (goal.at.In-loop-t c).In-loop-a in
@@ -122,35 +122,34 @@ pub loop-t-preserved : goal.loop-t-preserved
 loop-t-preserved c =
     let i2 = (goal.at.loop-t-preserved c).In-loop-t in
     let two = i2.two_to-two.ensures in (
-      i2.loop-t.invariant.0,
       search rules,
       rw two
-          (met_more _ _ _ _ i2.loop-t-test.true (rw two at i2.loop-t.invariant.2) (sym (sum_is i2) ∙ c.if-sums-t-ne0.false)),
+          (met_more _ _ _ _ i2.loop-t-test.true (rw two at i2.loop-t.invariant.1) (sym (sum_is i2) ∙ c.if-sums-t-ne0.false)),
     )
 
 pub loop-a-preserved : goal.loop-a-preserved
 loop-a-preserved c =
     let l = c.loop-t in
-    (l.invariant.0, search rules, λ x h. l.invariant.2 x (omega arith))
+    (search rules, λ x h. l.invariant.1 x (omega arith))
 
-pub equations-preserved : goal.equations-preserved
-equations-preserved c =
+pub loop-layer-preserved : goal.loop-layer-preserved
+loop-layer-preserved c =
     let l = c.loop-a in
     let s = c.args.s in
     let e : l.a ≡ c.two_to-two.result = omega arith in
-    (l.invariant.0, search rules, λ x h. l.invariant.2 x (omega (arith, ap (λ z. z * (s.n - s.k)) e)))
+    (search rules, λ x h. l.invariant.1 x (omega (arith, ap (λ z. z * (s.n - s.k)) e)))
 
-pub returns-after-equations : goal.returns-after-equations
+pub returns : goal.returns
 unfolding size
-returns-after-equations c =
-    let l = c.equations in
+returns c =
+    let l = c.loop-layer in
     let s = c.args.s in
     let e : l.layer ≡ s.layers = omega arith in
-    l.invariant.0 ∙ sound_when s _ (λ x h. l.invariant.2 x (rw (c.two_to-two.ensures, e) h))
+    sound_when s _ (λ x h. l.invariant.1 x (rw (c.two_to-two.ensures, e) h))
 
 pub returns-then-sums-t-ne0 : goal.returns-then-sums-t-ne0
 returns-then-sums-t-ne0 c =
     let i2 = (goal.at.returns-then-sums-t-ne0 c).In-loop-t in
     let two = i2.two_to-two.ensures in
-    unmet_when _ _ _ _ _ i2.equations-test.true (rw two at i2.loop-a-test.true) i2.loop-t-test.true
-    (rw two at i2.loop-t.invariant.2) (λ e. c.if-sums-t-ne0.true (sum_is i2 ∙ e))
+    unmet_when _ _ _ _ _ i2.loop-layer-test.true (rw two at i2.loop-a-test.true) i2.loop-t-test.true
+    (rw two at i2.loop-t.invariant.1) (λ e. c.if-sums-t-ne0.true (sum_is i2 ∙ e))

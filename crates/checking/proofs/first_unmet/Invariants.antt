@@ -1,8 +1,6 @@
 -- `checking::first_unmet` meets its contract: at each level of the loops every equation before this one is met. Assumes nothing.
-use mathlib.Core.Path.{◌≡◌}
 use Prim.Native.Nat.{ℕ, ◌≤◌, ◌+◌, ◌-◌, ◌*◌}
 use Rattle.shape.specs.declared.Shape.{Shape}
-use Rattle.checking.specs.declared.Checked.TheVariants.{Sound}
 use Rattle.checking.proofs.Checking.{MetBelow}
 use Rattle.checking.proofs.first_unmet.Given as goal
 
@@ -11,19 +9,19 @@ abbrev pub shape : ℕ → ℕ → ℕ → Shape
 shape n k layers = record { n = n; k = k; layers = layers }
 
 abbrev pub invariant-loop-t : goal.invariant-loop-t
-invariant-loop-t l = (l.found ≡ Sound) × (l.t ≤ l.r) × MetBelow (shape l.n l.k l.layers) l.nodes ((l.layer * l.two + l.a) * l.r + l.t)
+invariant-loop-t l = (l.t ≤ l.r) × MetBelow (shape l.n l.k l.layers) l.nodes ((l.layer * l.two + l.a) * l.r + l.t)
 
 abbrev pub decreases-loop-t : goal.decreases-loop-t
 decreases-loop-t l = l.r - l.t
 
 abbrev pub invariant-loop-a : goal.invariant-loop-a
-invariant-loop-a l = (l.found ≡ Sound) × (l.a ≤ l.two) × MetBelow (shape l.n l.k l.layers) l.nodes ((l.layer * l.two + l.a) * l.r)
+invariant-loop-a l = (l.a ≤ l.two) × MetBelow (shape l.n l.k l.layers) l.nodes ((l.layer * l.two + l.a) * l.r)
 
 abbrev pub decreases-loop-a : goal.decreases-loop-a
 decreases-loop-a l = l.two - l.a
 
-abbrev pub invariant-equations : goal.invariant-equations
-invariant-equations l = (l.found ≡ Sound) × (l.layer ≤ l.layers) × MetBelow (shape l.n l.k l.layers) l.nodes (l.layer * l.two * l.r)
+abbrev pub invariant-loop-layer : goal.invariant-loop-layer
+invariant-loop-layer l = (l.layer ≤ l.layers) × MetBelow (shape l.n l.k l.layers) l.nodes (l.layer * l.two * l.r)
 
-abbrev pub decreases-equations : goal.decreases-equations
-decreases-equations l = l.layers - l.layer
+abbrev pub decreases-loop-layer : goal.decreases-loop-layer
+decreases-loop-layer l = l.layers - l.layer

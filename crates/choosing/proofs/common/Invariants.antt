@@ -1,10 +1,7 @@
 -- `choosing::common` meets its contract: no multiple of l before l × j is one of s, and l × s is. Assumes nothing.
-use Prim.Native.Nat.{◌-◌, ◌≤◌, ◌<◌}
+use Prim.Native.Nat.{◌≤◌, ◌<◌}
 use Rattle.choosing.proofs.Multiples.{NoneBefore}
 use Rattle.choosing.proofs.common.Given as goal
 
 abbrev pub invariant-loop-j : goal.invariant-loop-j
-invariant-loop-j l = (0 < l.j) × (l.j ≤ l.s) × NoneBefore l.l l.s l.j
-
-abbrev pub decreases-loop-j : goal.decreases-loop-j
-decreases-loop-j l = l.s - l.j
+invariant-loop-j l = NoneBefore l.l l.s l.j

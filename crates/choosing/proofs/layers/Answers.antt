@@ -2,12 +2,11 @@
 use mathlib.Core.Path.{◌≡◌, sym, ◌∙◌}
 use mathlib.Core.Bool.{false}
 use native.Mathlib.Omega.{arith}
-use borrow.Author.Rules.{rules}
-use borrow.Author.Tests.{not-true, not-false}
 use Rattle.shape.specs.Refusals.{shape_bad}
 use Rattle.shape.proofs.Accepted.{shape_accepted}
-use Rattle.choosing.proofs.Needed.{needed_least, needed_over}
-use Rattle.choosing.proofs.Promised.{counts_refused, losses_refused, none_refused, chosen}
+use Rattle.shape.proofs.Answers.{handed_on}
+use Rattle.choosing.proofs.Needed.{needed_least, needed_over, needed_ranged}
+use Rattle.choosing.proofs.Promised.{counts_refused, turned_for, none_refused, chosen}
 use Rattle.choosing.proofs.layers.Goals as goal
 use Rattle.choosing.proofs.layers.Goals.{Else-shape_bad}
 
@@ -26,23 +25,25 @@ overflow_sub-n c = omega (arith, shape_accepted _ (counts c))
 pub overflow_sub-n-2 : goal.overflow_sub-n-2
 overflow_sub-n-2 c = omega (arith, shape_accepted _ (counts c))
 
-pub needs_of-needed-requires : goal.needs_of-needed-requires
-needs_of-needed-requires c = omega (arith, shape_accepted _ (counts c))
+pub needs_of-requires : goal.needs_of-requires
+needs_of-requires c = omega (arith, shape_accepted _ (counts c))
 
-pub returns-then-outside : goal.returns-then-outside
-returns-then-outside c =
-    losses_refused _ _ _ (counts (goal.at.returns-then-outside c).Else-shape_bad) (not-true _ (sym c.needs_of-needed.ensures.judged ∙ c.if-outside.true))
+pub returns-in_err-least : goal.returns-in_err-least
+returns-in_err-least c =
+    rw (handed_on _ c.from_residual.ensures.1)
+    (turned_for _ _ _ (counts (goal.at.returns-in_err-least c).Else-shape_bad) _ _ c.needs_of.ensures c.in_err-least.was)
 
-pub returns-then-over : goal.returns-then-over
-returns-then-over c =
-    let N = c.needs_of-needed.ensures in
-    let inside : c.needs_of-needed.result.outside ≡ false = search rules in
-    none_refused _ _ _ (counts (goal.at.returns-then-over c).Else-shape_bad) (not-false _ (sym N.judged ∙ inside))
-    (needed_over _ _ N.positive (N.multiples inside) c.if-over.true)
+pub returns-then-least-gt-MOST_LAYERS : goal.returns-then-least-gt-MOST_LAYERS
+returns-then-least-gt-MOST_LAYERS c =
+    let N = c.needs_of.ensures in
+    let e = c.in_ok-least.was in
+    none_refused _ _ _ (counts (goal.at.returns-then-least-gt-MOST_LAYERS c).Else-shape_bad) (needed_ranged _ _ _ _ N e)
+    (needed_over _ _ (N.positive _ e) (N.multiples _ e) c.if-least-gt-MOST_LAYERS.true)
 
 pub returns : goal.returns
 returns c =
-    let N = c.needs_of-needed.ensures in
-    let l = c.if-over.false in
-    chosen _ _ _ (counts (goal.at.returns c).Else-shape_bad) (not-false _ (sym N.judged ∙ c.if-outside.false)) _
-    (needed_least _ _ N.positive (N.multiples c.if-outside.false) l) l
+    let N = c.needs_of.ensures in
+    let e = c.in_ok-least.was in
+    let l = c.if-least-gt-MOST_LAYERS.false in
+    chosen _ _ _ (counts (goal.at.returns c).Else-shape_bad) (needed_ranged _ _ _ _ N e) _
+    (needed_least _ _ (N.positive _ e) (N.multiples _ e) l) l

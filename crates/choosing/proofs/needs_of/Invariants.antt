@@ -7,8 +7,5 @@ use Rattle.shape.specs.Shape.{within}
 use Rattle.choosing.proofs.Needed.{NeededFrom}
 use Rattle.choosing.proofs.needs_of.Given as goal
 
-abbrev pub invariant-loop-i : goal.invariant-loop-i
-invariant-loop-i l = (l.i ≤ length l.losses) × (all (within 1 l.most) l.losses ≡ all (within 1 l.most) (drop l.i l.losses)) × NeededFrom l.losses l.i l.least
-
-abbrev pub decreases-loop-i : goal.decreases-loop-i
-decreases-loop-i l = length l.losses - l.i
+abbrev pub invariant-loop-h : goal.invariant-loop-h
+invariant-loop-h l = (l.h-index ≤ length l.losses) × (all (within 1 l.most) l.losses ≡ all (within 1 l.most) (drop l.h-index l.losses)) × NeededFrom l.losses l.h-index l.least

@@ -3,7 +3,7 @@
 use mathlib.Core.Path.{◌≡◌, refl, sym, ◌∙◌}
 use mathlib.Core.Bool.{Bool, true, false, cond}
 use mathlib.Core.List.{List}
-use Prim.Native.Nat.{ℕ, ◌-◌, ◌≤◌, ◌<◌, ◌^◌}
+use Prim.Native.Nat.{ℕ, ◌≤◌, ◌<◌, ◌^◌}
 use native.Mathlib.Omega.{arith}
 use borrow.Author.Rules.{rules}
 use borrow.Author.Tests.{eqb-true}
@@ -58,26 +58,13 @@ inside c =
 pub overflow_cast-out : goal.overflow_cast-out
 overflow_cast-out c = omega (arith, (inside c).0)
 
-pub offset_bounds-out-x : goal.offset_bounds-out-x
-offset_bounds-out-x c = omega (arith, (inside c).1)
-
 pub bounds-out-x : goal.bounds-out-x
 bounds-out-x c = (inside c).1
-
-pub overflow_add-x : goal.overflow_add-x
-overflow_add-x c =
-    let t = eqb c.class_of.result c.args.c in
-    let l = c.loop-a in
-    let f = members_few c.args.dead.now c.args.c l.a in
-    rw (byte t) (omega (arith, (inside (goal.at.overflow_add-x c).In-loop-a).0, l.invariant.1.count, f, one t))
 
 pub loop-a-preserved : goal.loop-a-preserved
 loop-a-preserved c =
     let l = c.loop-a in
     (search rules, listing_more _ _ _ _ _ _ _ l.invariant.1 (inside (goal.at.loop-a-preserved c).In-loop-a).1 (byte (eqb c.class_of.result c.args.c) ∙ counted _ _ _ _ c.class_of.ensures))
-
-pub shape_of-out : goal.shape_of-out
-shape_of-out c = c.loop-a.invariant.1.long
 
 pub returns : goal.returns
 returns c =

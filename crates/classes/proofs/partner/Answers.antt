@@ -1,6 +1,5 @@
 -- `classes::partner` meets its contract: the table of document 01, row by row. Assumes nothing.
 use mathlib.Core.Path.{sym}
-use native.Mathlib.Nat.{mod-lt}
 use native.Mathlib.Omega.{arith}
 use borrow.Author.Tests.{lt-ltb, le-ltb}
 use Rattle.classes.specs.Classes.{partner}
@@ -12,9 +11,6 @@ nonzero_div-row c = omega (arith, (bounded c.requires.0).batch_low)
 
 pub nonzero_rem-rest : goal.nonzero_rem-rest
 nonzero_rem-rest c = omega (arith, (bounded c.requires.0).batch_low)
-
-pub overflow_add-result : goal.overflow_add-result
-overflow_add-result c = let b = bounded c.requires.0 in omega (arith, mod-lt c.args.u b.batch_low, b.batch_high)
 
 pub returns-then-row-top : goal.returns-then-row-top
 unfolding partner

@@ -1,20 +1,33 @@
--- `classes::rank_of` meets its contract: the node is in what is left of the list, and stands nowhere else. Assumes nothing.
-use mathlib.Core.Path.{sym, ◌∙◌}
-use mathlib.Core.Bool.{true, false, false≢true}
-use Prim.Native.Nat.{◌-◌}
+-- `classes::rank_of` meets its contract: a member of a list stands at its position. Assumes nothing.
+use mathlib.Core.Path.{◌≡◌, refl, sym, ap, ◌∙◌}
+use mathlib.Core.Bool.{cond}
+use mathlib.Core.List.{List}
+use Prim.Native.Nat.{ℕ}
+use native.Mathlib.Omega.{arith}
 use borrow.Author.Rules.{rules}
-use Rattle.lists.proofs.Members.{at_position, rising_distinct}
-use Rattle.lists.proofs.Searches.{search_pass, search_end}
+use borrow.Author.Tests.{tests, lt-ltb}
+use lib.Dec.{eqb}
+use Rattle.std.specs.List.{position_or_len}
+use Rattle.std.specs.Option.{unwrap_or}
+use Rattle.std.proofs.Common.{Some, None}
+use Rattle.std.proofs.lemmas.Iterator.{YieldsList-from_slice}
+use Rattle.std.proofs.lemmas.Iterator.Search.{position_from_yields_List}
+use Rattle.std.proofs.lemmas.List.Recursion.{is_position_or_len}
+use Rattle.lists.specs.Lists.{position}
+use Rattle.lists.proofs.Members.{at_position}
 use Rattle.classes.proofs.rank_of.Goals as goal
 
-pub returns-then-new-dead : goal.returns-then-new-dead
-returns-then-new-dead c =
-    let w = at_position c.args.dead.now c.args.new c.requires.1 in
-    (c.loop-u-test.true, rising_distinct _ _ c.requires.0.rises _ _ c.loop-u-test.true w.0 (sym c.if-new-dead.true ∙ sym w.1))
-
-pub loop-u-preserved : goal.loop-u-preserved
-loop-u-preserved c =
-    (search rules, c.loop-u.invariant.1 ∙ search_pass _ _ _ c.loop-u-test.true c.if-new-dead.false)
+-- the position by a test
+by_test : (x : ℕ) (xs : List ℕ) → position x xs ≡ position_or_len (eqb x) xs
+unfolding position
+by_test x xs = is_position_or_len (position x) (eqb x) refl (λ y ys. ap (cond (eqb x y) 0) (omega arith)) xs
 
 pub returns : goal.returns
-returns c = absurd (false≢true (sym (c.loop-u.invariant.1 ∙ search_end _ _ _ c.loop-u-test.false) ∙ c.requires.1))
+returns c =
+    let a = c.args in
+    let l = (at_position a.dead.now a.new c.requires.1).0 in
+    let e = by_test a.new a.dead.now in
+    let found = position_from_yields_List (eqb a.new) _ _ _ c.position.ensures.ran (YieldsList-from_slice a.dead.now cc) (λ x b q k. search (rules, tests)) in
+    let r : c.unwrap_or.result ≡ position a.new a.dead.now =
+    c.unwrap_or.ensures ∙ ap (λ o. unwrap_or o 0) (found ∙ ap (λ t. cond t (Some (position_or_len (eqb a.new) a.dead.now)) None) (lt-ltb _ _ (rw e at l))) ∙ sym e in
+    (rw r l, r)

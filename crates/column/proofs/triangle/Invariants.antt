@@ -1,10 +1,7 @@
 -- The triangle, a row for each equation, each from the one before.
-use mathlib.Core.Path.{◌≡◌}
-use mathlib.Core.List.{List, []}
-use Prim.Native.Nat.{ℕ, ◌-◌, ◌≤◌, ◌<◌}
-use lib.ListN.{length, get_or}
+use Rattle.std.proofs.Common.{◌≡◌, ℕ, ◌<◌, List, [], get_or}
 use Rattle.lists.specs.Lists.{element}
-use Rattle.column.specs.Solving.{most_entries, differences}
+use Rattle.column.specs.Solving.{differences}
 use Rattle.column.proofs.triangle.Given as goal
 
 -- what row i of the triangle is
@@ -12,7 +9,4 @@ abbrev pub Row : ℕ → ℕ → List ℕ → ℕ → List ℕ → Type 0
 Row q r points i row = (j : ℕ) → j < r → element row j ≡ differences q (element points) i (element points j)
 
 abbrev pub invariant-loop-i : goal.invariant-loop-i
-invariant-loop-i l = (l.i ≤ l.r) × (length l.out ≡ most_entries) × Row l.q l.r l.points l.i l.row × ((k : ℕ) → k < l.i → Row l.q l.r l.points k (get_or l.out k []))
-
-abbrev pub decreases-loop-i : goal.decreases-loop-i
-decreases-loop-i l = l.r - l.i
+invariant-loop-i l = Row l.q l.r l.points l.i l.row × ((k : ℕ) → k < l.i → Row l.q l.r l.points k (get_or l.factors-items k []))

@@ -1,75 +1,39 @@
 -- `comparing::layers_met` meets its contract: what would be filled in at the layers passed is there already. Assumes nothing.
-use mathlib.Core.Path.{◌≡◌, sym, subst}
-use mathlib.Core.Bool.{true≢false}
-use Prim.Native.Nat.{◌+◌, ◌-◌, ◌*◌, ◌^◌, ◌≤◌}
-use native.Mathlib.Nat.{mul-le-mul_right}
-use native.Mathlib.Omega.{arith}
-use borrow.Author.Rules.{rules}
+use Rattle.std.proofs.Common.{◌≡◌, ◌+◌, ◌*◌, ◌^◌, ◌≤◌, subst, arith}
 use lib.Pow.{pow_pos}
 use Rattle.shape.specs.Shape.{size}
-use Rattle.shape.proofs.Accepted.{shape_accepted, most_size}
+use Rattle.shape.proofs.Accepted.{most_size}
 use Rattle.filling.specs.Filling.{Filled, InLayers}
-use Rattle.filling.proofs.Filling.{run_filled, layers_none, layers_more}
+use Rattle.filling.proofs.Filling.{run_filled, layer_room, layers_more}
 use Rattle.comparing.proofs.layers_met.Goals as goal
 use Rattle.comparing.proofs.layers_met.Goals.{In-loop-layer}
 
-pub two_to-two-requires : goal.two_to-two-requires
-two_to-two-requires c =
-    (shape_accepted _ c.requires.0).n_high
-
-pub run_multipliers-requires : goal.run_multipliers-requires
-run_multipliers-requires c =
-    ((shape_accepted _ c.requires.0).n_high, search rules, c.requires.4, c.requires.5, c.requires.1.up, c.requires.2, c.requires.3, c.requires.6, c.requires.7)
-
-pub loop-layer-init : goal.loop-layer-init
-loop-layer-init c =
-    (search rules, layers_none _ c.args.s.layers _ _ _ c.requires.1.up c.requires.5 (pow_pos c.args.s.n) _ _)
-
--- a layer's places lie within a node, and a node has few
-layer_room : (c : In-loop-layer) →
+room : (c : In-loop-layer) →
     let s = c.args in
     let two = c.two_to-two.result in
     (c.loop-layer.layer * two + s.a + s.run ≤ s.s.layers * two) × (s.s.layers * two ≤ most_size)
-unfolding size
-layer_room c =
-    let e = c.two_to-two.ensures in (
-      omega (arith, e, c.requires.5, mul-le-mul_right c.two_to-two.result (let z : c.loop-layer.layer + 1 ≤ c.args.s.layers = omega arith in z)),
-      rw e (shape_accepted c.args.s c.requires.0).size_high,
-    )
+room c = layer_room c.args.s _ _ _ _ c.requires.0 c.requires.5 c.loop-layer-test.true c.two_to-two.ensures
 
 pub overflow_mul-layers : goal.overflow_mul-layers
-overflow_mul-layers c = omega (arith, (layer_room c).1)
+overflow_mul-layers c = omega (arith, room c)
 
 pub overflow_mul-layer : goal.overflow_mul-layer
-overflow_mul-layer c = omega (arith, (layer_room c).0, (layer_room c).1)
+overflow_mul-layer c = omega (arith, room c)
 
 pub overflow_add-layer : goal.overflow_add-layer
-overflow_add-layer c = omega (arith, (layer_room c).0, (layer_room c).1)
+overflow_add-layer c = omega (arith, room c)
 
 pub run_met-requires : goal.run_met-requires
 unfolding size
 run_met-requires c =
-    let e = c.two_to-two.ensures in
     let m = c.run_multipliers.ensures in
-    (rw e c.requires.1, c.requires.2, c.requires.4, omega (arith, (layer_room c).0), m.long, m.low)
-
-pub returns-then-not-run_met : goal.returns-then-not-run_met
-returns-then-not-run_met c =
-    let m = c.run_multipliers.ensures in
-    (m.long, m.low, λ h. absurd (true≢false (sym h)))
-
-pub overflow_step-layer : goal.overflow_step-layer
-overflow_step-layer c =
-    omega (arith, (shape_accepted c.args.s c.requires.0).layers_high)
+    (rw c.two_to-two.ensures c.requires.1, c.requires.2, c.requires.4, (room (goal.at.run_met-requires c).In-loop-layer).0, m.long, m.low)
 
 pub loop-layer-preserved : goal.loop-layer-preserved
 loop-layer-preserved c =
-    let e = c.two_to-two.ensures in (
-      search rules,
-      layers_more _ c.args.s.layers _ _ _ c.requires.1.up c.requires.5 (pow_pos c.args.s.n) _ c.loop-layer.layer _ _ _ c.loop-layer.invariant.1
-          (run_filled _ _ c.loop-layer.layer _ _ _ _ _ _ c.requires.5 c.run_multipliers.ensures
-          (rw e at (c.run_met.ensures c.if-not-run_met.false))),
-    )
+    let l = c.loop-layer in
+    layers_more _ c.args.s.layers _ _ _ c.requires.1.up c.requires.5 (pow_pos c.args.s.n) _ l.layer _ _ _ l.invariant
+    (run_filled _ _ l.layer _ _ _ _ _ _ c.requires.5 c.run_multipliers.ensures (rw c.two_to-two.ensures at (c.run_met.ensures c.if-not-run_met.false)))
 
 pub returns : goal.returns
 unfolding size
@@ -78,4 +42,4 @@ returns c =
     let s = c.args in
     let m = c.run_multipliers.ensures in
     let e : l.layer ≡ s.s.layers = omega arith in
-    (m.long, m.low, λ _. subst (λ k. Filled s.s.n (s.s.layers * 2 ^ s.s.n) s.list.now (InLayers (2 ^ s.s.n) s.a s.run k) s.nodes.now s.nodes.now) e l.invariant.1)
+    (m.long, m.low, λ _. subst (λ k. Filled s.s.n (s.s.layers * 2 ^ s.s.n) s.list.now (InLayers (2 ^ s.s.n) s.a s.run k) s.nodes.now s.nodes.now) e l.invariant)

@@ -1,20 +1,10 @@
 -- `comparing::listed_met` meets its contract. Assumes nothing.
-use mathlib.Core.Path.{sym}
-use mathlib.Core.Bool.{true≢false}
-use native.Mathlib.Omega.{arith}
+use Rattle.std.proofs.Common.{rules, arith}
 use Rattle.shape.proofs.Accepted.{shape_accepted}
+use Rattle.rows.proofs.Rows.{low_replicate}
+use Rattle.tables.specs.Tables.{table_size}
 use Rattle.comparing.proofs.listed_met.Goals as goal
 
-pub marks-marked-requires : goal.marks-marked-requires
-marks-marked-requires c = omega (arith, (shape_accepted _ c.requires.0).n_high)
-
-pub pays-requires : goal.pays-requires
-pays-requires c = (shape_accepted _ c.requires.0).n_high
-
-pub met_from_few-requires : goal.met_from_few-requires
-met_from_few-requires c =
-    (c.requires.0, c.requires.1, c.marks-marked.ensures, c.pays.ensures c.if-pays.true)
-
-pub runs_met-requires : goal.runs_met-requires
-runs_met-requires c =
-    (c.requires.0, c.requires.1, c.marks-marked.ensures, λ h. absurd (true≢false (sym h)))
+pub represent-requires : goal.represent-requires
+represent-requires c =
+    ((shape_accepted _ c.requires.0).n_high, search rules, c.pays.ensures (search rules), c.requires.1.up, c.marks-marked.ensures, search rules, low_replicate _ table_size 0 (omega arith))

@@ -1,6 +1,6 @@
 -- `completion::others` meets its contract. Assumes nothing.
 use mathlib.Core.Path.{◌≡◌, refl, ap, ◌∙◌}
-use Prim.Native.Nat.{◌+◌, ◌-◌, ◌<◌}
+use Prim.Native.Nat.{◌-◌, ◌<◌}
 use native.Mathlib.Omega.{arith}
 use lib.ListN.{length, get_or, take, length-set}
 use Rattle.lists.proofs.Others.{others_length}
@@ -12,7 +12,7 @@ use Rattle.completion.proofs.others.Goals as goal
 use Rattle.completion.proofs.others.Goals.{then-j-list+else-list-j, else-j-list}
 
 pub loop-i-init : goal.loop-i-init
-loop-i-init c = (search rules, search rules, search rules, along_none _, written_none _ _ _)
+loop-i-init c = (search rules, search rules, along_none _, written_none _ _ _)
 
 pub loop-i-preserved-then-list-j : goal.loop-i-preserved-then-list-j
 loop-i-preserved-then-list-j c =
@@ -20,10 +20,9 @@ loop-i-preserved-then-list-j c =
     let up = c.requires.1 in
     let h : l.j < length c.args.list.now = omega arith in (
       search rules,
-      search rules,
-      l.invariant.2,
-      along_hit _ _ up l.i l.j l.invariant.3 h c.if-list-j.true,
-      written_skip _ _ l.i _ _ _ l.invariant.4 (hit_outside _ _ up l.i l.j l.invariant.3 h c.if-list-j.true),
+      l.invariant.1,
+      along_hit _ _ up l.i l.j l.invariant.2 h c.if-list-j.true,
+      written_skip _ _ l.i _ _ _ l.invariant.3 (hit_outside _ _ up l.i l.j l.invariant.2 h c.if-list-j.true),
     )
 
 pub loop-i-preserved : goal.loop-i-preserved
@@ -32,10 +31,9 @@ loop-i-preserved c =
     let up = c.requires.1 in
     let d : l.j < length c.args.list.now → get_or c.args.list.now l.j 0 ≡ l.i → ⊥ = elim c.if-j-list.branch [ then-j-list+else-list-j w ↦ (λ h. w.if-list-j.false) | else-j-list w ↦ (λ h. absurd (omega (arith, w.if-j-list.false))) ] in (
       search rules,
-      search rules,
-      simp length-set l.invariant.2,
-      along_miss _ _ up l.i l.j l.invariant.3 d,
-      written_more _ _ l.i _ _ _ l.invariant.4 l.i (omega arith) (miss_outside _ _ up l.i l.j l.invariant.3 d) refl,
+      simp length-set l.invariant.1,
+      along_miss _ _ up l.i l.j l.invariant.2 d,
+      written_more _ _ l.i _ _ _ l.invariant.3 l.i (omega arith) (miss_outside _ _ up l.i l.j l.invariant.2 d) refl,
     )
 
 pub returns : goal.returns
@@ -44,5 +42,5 @@ returns c =
     let l = c.loop-i in
     let e : l.i ≡ c.args.m = omega arith in
     let list = c.args.list.now in
-    let whole = rw (map_self (picked (outside list) l.i), e) at l.invariant.4.held in
+    let whole = rw (map_self (picked (outside list) l.i), e) at l.invariant.3.held in
     ap (take (c.args.m - length list)) whole ∙ onto_front (others c.args.m list) _ (c.args.m - length list) (omega (arith, others_length c.args.m list c.requires.1))

@@ -1,42 +1,45 @@
 -- `completion::scatter` meets its contract. Assumes nothing.
-use mathlib.Core.Path.{refl}
-use Prim.Native.Nat.{◌-◌, ◌≤◌, ◌<◌}
-use native.Mathlib.Omega.{arith}
-use lib.ListN.{length, get_or, length-set}
+use Rattle.std.proofs.Common.{◌≡◌, ◌<◌, ◌≤◌, length, get_or, length-set, arith}
+use Rattle.std.proofs.lemmas.Slice.Zip.{zip_turn}
+use Rattle.std.proofs.lemmas.List.{length_push}
+use Rattle.std.specs.Slice.Iter.{iter_rest}
+use Rattle.std.specs.Iterator.Adapters.{zip_first, zip_second}
 use Rattle.lists.proofs.Members.{rising_below}
 use Rattle.lists.proofs.Stores.{listed_more, unlisted_more}
-use borrow.Author.Rules.{rules}
 use Rattle.completion.proofs.scatter.Goals as goal
-use Rattle.completion.proofs.scatter.Goals.{In-loop-j}
+use Rattle.completion.proofs.scatter.Goals.{In-Some}
 
-pub loop-j-init : goal.loop-j-init
-loop-j-init c = (search rules, search rules, refl, λ l h. absurd (omega arith), λ i h. refl)
+-- which entry and value an iteration has
+turn : (c : In-Some) →
+    let n = length c.loop-entry.yielded in
+    (n < length c.args.list.now) × (c.in-Some.field-0-0.now ≡ get_or c.args.list.now n 0) × (c.in-Some.field-0-1.now ≡ get_or c.args.values.now n 0)
+turn c =
+    let d = c.loop-entry in
+    let s = c.into_iter-entry-iterator.result in
+    let first : iter_rest (zip_first s) ≡ c.args.list.now = cc in
+    let second : iter_rest (zip_second s) ≡ c.args.values.now = cc in
+    let t = zip_turn _ _ d.yielded s d.entry-iterator c.next.new.self _ first second d.yielded_by _ c.in-Some.is c.next.ensures.steps in
+    (t.0, t.2 0, t.3 0)
 
-target : (c : In-loop-j) →
-    get_or c.args.list.now c.loop-j.j 0 < length c.loop-j.column
-target c = omega (arith, rising_below _ _ c.requires.1 c.loop-j.j (omega arith))
+target : (c : In-Some) → c.in-Some.field-0-0.now < length c.loop-entry.column
+target c = let t = turn c in omega (arith, rising_below _ _ c.requires.1 (length c.loop-entry.yielded) t.0)
 
-pub offset_bounds-column-list : goal.offset_bounds-column-list
-offset_bounds-column-list c = omega (arith, target (goal.at.offset_bounds-column-list c).In-loop-j)
+pub offset_bounds-column-entry : goal.offset_bounds-column-entry
+offset_bounds-column-entry c = omega (arith, target (goal.at.offset_bounds-column-entry c).In-Some)
 
-pub bounds-column-list : goal.bounds-column-list
-bounds-column-list c = target (goal.at.bounds-column-list c).In-loop-j
+pub bounds-column-entry : goal.bounds-column-entry
+bounds-column-entry c = target (goal.at.bounds-column-entry c).In-Some
 
-pub loop-j-preserved : goal.loop-j-preserved
-loop-j-preserved c =
-    let l = c.loop-j in
-    let s = c.args in
-    let up = c.requires.1 in
-    let h : l.j < length s.list.now = omega arith in
-    let room : length s.column.now ≤ length l.column = omega arith in (
-      search rules,
-      search rules,
-      simp length-set l.invariant.2,
-      listed_more _ s.list.now s.values.now up s.column.now l.column l.j _ h room refl l.invariant.3,
-      unlisted_more _ s.list.now s.values.now up s.column.now l.column l.j _ h room l.invariant.4,
+pub loop-entry-preserved : goal.loop-entry-preserved
+loop-entry-preserved c =
+    let w = (goal.at.loop-entry-preserved c).In-Some in
+    let l = w.loop-entry in
+    let s = w.args in
+    let t = turn w in
+    let n = length l.yielded in
+    let room : length s.column.now ≤ length l.column = omega arith in
+    rw (length_push l.yielded _, t.1) (
+      simp length-set l.invariant.0,
+      listed_more _ s.list.now s.values.now w.requires.1 s.column.now l.column n _ t.0 room t.2 l.invariant.1,
+      unlisted_more _ s.list.now s.values.now w.requires.1 s.column.now l.column n _ t.0 room l.invariant.2,
     )
-
-pub returns : goal.returns
-returns c =
-    let l = c.loop-j in
-    record { long = l.invariant.2; listed = λ j h. l.invariant.3 j (omega arith); unlisted = l.invariant.4 }

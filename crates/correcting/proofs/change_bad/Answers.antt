@@ -2,34 +2,33 @@
 use mathlib.Core.Path.{◌≡◌, sym, ap, ap₂, ◌∙◌}
 use mathlib.Core.Bool.{true, ◌||◌}
 use native.Mathlib.Omega.{arith}
-use lib.IntN.{pos, negsuc, ◌+ℤ◌}
+use lib.IntN.{pos, ◌+ℤ◌}
 use lib.Signed.{lt_z}
 use mir.Syntax.{w64}
 use mir.Val.{to_z, of_z, SFits}
 use mir.Facts.{to_z-of_z, to_z_pos}
 use Rattle.correcting.specs.Signed.{is_change}
-use Rattle.correcting.proofs.Signed.{below_range, above_range, in_range, sum_tested, sum_low}
+use Rattle.correcting.proofs.Signed.{range_tested, out_of_range, sum_tested, sum_low}
 use Rattle.correcting.proofs.change_bad.Goals as goal
-use Rattle.correcting.proofs.change_bad.Goals.{Else-change-gt255}
+use Rattle.correcting.proofs.change_bad.Goals.{After-contains, Else-not-contains}
 
-pub returns-then-change-ltminus255 : goal.returns-then-change-ltminus255
-returns-then-change-ltminus255 c = sym (below_range _ _ (ap (λ u. lt_z u (negsuc 254)) (sym (to_z-of_z c.ranges.change)) ∙ c.if-change-ltminus255.true))
+-- the range is that of a change
+told : (c : After-contains) → c.contains.result ≡ is_change c.args.change
+told c = (rw (c.new.ensures.start, c.new.ensures.end, c.new.ensures.exhausted) at c.contains.ensures.value) ∙ range_tested _ ∙ ap is_change (to_z-of_z c.ranges.change)
 
-pub returns-then-change-gt255 : goal.returns-then-change-gt255
-returns-then-change-gt255 c = sym (above_range _ _ (ap (lt_z (pos 255)) (sym (to_z-of_z c.ranges.change)) ∙ c.if-change-gt255.true))
+pub returns-then-not-contains : goal.returns-then-not-contains
+returns-then-not-contains c = sym (out_of_range _ _ (sym (told (goal.at.returns-then-not-contains c).After-contains) ∙ c.if-not-contains.true))
 
-known : (c : Else-change-gt255) → is_change c.args.change ≡ true
-known c =
-    let back = sym (to_z-of_z c.ranges.change) in
-    in_range _ (ap (λ u. lt_z u (negsuc 254)) back ∙ c.if-change-ltminus255.false) (ap (lt_z (pos 255)) back ∙ c.if-change-gt255.false)
+known : (c : Else-not-contains) → is_change c.args.change ≡ true
+known c = sym (told (goal.at.Else-not-contains c).After-contains) ∙ c.if-not-contains.false
 
 -- what is added, as the bits have it
-sum_is : (c : Else-change-gt255) →
+sum_is : (c : Else-not-contains) →
     let a = c.args in
     to_z w64 a.symbol +ℤ to_z w64 (of_z w64 a.change) ≡ pos a.symbol +ℤ a.change
 sum_is c = ap₂ ◌+ℤ◌ (to_z_pos w64 (omega (arith, c.ranges.symbol.fits))) (to_z-of_z c.ranges.change)
 
-sum_fits : (c : Else-change-gt255) → let a = c.args in SFits w64 (to_z w64 a.symbol +ℤ to_z w64 (of_z w64 a.change))
+sum_fits : (c : Else-not-contains) → let a = c.args in SFits w64 (to_z w64 a.symbol +ℤ to_z w64 (of_z w64 a.change))
 sum_fits c = let a = c.args in rw (sum_is c) (record { sfits = omega (arith, sum_low a.symbol a.change (known c), c.ranges.symbol.fits) })
 
 pub overflow_add-sum : goal.overflow_add-sum

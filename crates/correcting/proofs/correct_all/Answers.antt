@@ -1,5 +1,5 @@
 -- `correcting::correct_all` meets its contract: one solve, then the byte's own symbol and one of each check node. Assumes nothing.
-use mathlib.Core.Path.{◌≡◌, refl, ap, ◌∙◌}
+use mathlib.Core.Path.{◌≡◌, ap, ◌∙◌}
 use Prim.Native.Nat.{◌/◌, ◌%◌, ◌<◌}
 use native.Mathlib.Nat.{mod-lt}
 use native.Mathlib.Omega.{arith}
@@ -54,11 +54,9 @@ shape_of-nodes c =
 
 pub returns : goal.returns
 returns c =
-    let d = (goal.at.returns c).After-changes-by in (
-      refl,
-      changed_corrected d.args.s d.args.nodes.now d.args.byte d.args.change d.requires _ (changes_are d) _
-          (rw (c.add_to.ensures, d.size-each.ensures) at c.change_checks.ensures),
-    )
+    let d = (goal.at.returns c).After-changes-by in
+    changed_corrected d.args.s d.args.nodes.now d.args.byte d.args.change d.requires _ (changes_are d) _
+    (rw (c.add_to.ensures, d.size-each.ensures) at c.change_checks.ensures)
 
 pub size-each-requires : goal.size-each-requires
 size-each-requires c = c.requires.shape

@@ -1,8 +1,7 @@
 -- `finishing::finish_with` meets its contract: the sums passed are finished. Assumes nothing.
 use mathlib.Core.Path.{◌≡◌, sym, ap, ◌∙◌}
 use mathlib.Core.Bool.{true}
-use Prim.Native.Nat.{◌+◌, ◌-◌, ◌%◌, ◌≤◌, ◌<◌}
-use native.Mathlib.Nat.{mul-le-mul, mod-le}
+use Prim.Native.Nat.{◌+◌, ◌-◌, ◌%◌, ◌≤◌, ◌<◌, ◌*◌}
 use native.Mathlib.Numerals.{add-one}
 use native.Mathlib.Omega.{arith}
 use lib.ListN.{length, get_or, take, length-take}
@@ -10,30 +9,17 @@ use Rattle.lists.specs.Lists.{others, rising}
 use Rattle.lists.proofs.Members.{rising_more, rises_rising}
 use Rattle.lists.proofs.Others.{others_length, others_rise}
 use Rattle.lists.proofs.Parts.{row_within}
-use Rattle.shape.specs.Shape.{most_nodes}
-use Rattle.shape.proofs.Accepted.{shape_accepted, most_size}
-use Rattle.classes.specs.Classes.{node, rank_class, spot_at, message_size}
-use Rattle.classes.proofs.Layouts.{bounded, node_high, share_high}
+use Rattle.shape.proofs.Accepted.{shape_accepted}
+use Rattle.classes.specs.Classes.{node, spot_at, message_size}
+use Rattle.classes.proofs.Layouts.{bounded, node_high}
 use Rattle.arrival.specs.Sums.{kept_size}
 use Rattle.arrival.proofs.Members.{cycled}
-use Rattle.finishing.proofs.Finished.{finished_none, finished_more, finished_all}
+use Rattle.finishing.proofs.Finished.{finished_more, finished_all}
 use Rattle.finishing.proofs.finish_with.Goals as goal
 use Rattle.finishing.proofs.finish_with.Goals.{After-others-unknown, In-loop-x, Start}
 
 pub overflow_sub-r : goal.overflow_sub-r
 overflow_sub-r c = omega (arith, (shape_accepted c.args.g.shape c.requires.0.ready.shaped).k_high)
-
-pub offset_bounds-dead-u : goal.offset_bounds-dead-u
-offset_bounds-dead-u c = omega (arith, c.requires.0.rank, (bounded c.requires.0.ready).dead_high)
-
-pub bounds-dead-u : goal.bounds-dead-u
-bounds-dead-u c = c.requires.0.rank
-
-pub rank_class-requires : goal.rank_class-requires
-rank_class-requires c = c.requires.0.ready
-
-pub list_members-requires : goal.list_members-requires
-list_members-requires c = (c.requires.0.ready, c.requires.1)
 
 pub overflow_add-n : goal.overflow_add-n
 overflow_add-n c = omega (arith, (bounded c.requires.0.ready).n_high)
@@ -44,9 +30,6 @@ more c = rw (add-one c.args.g.shape.n) (rising_more c.args.g.shape.n c.args.help
 
 pub others-unknown-requires : goal.others-unknown-requires
 others-unknown-requires c = (omega (arith, (bounded c.requires.0.ready).n_high), more (goal.at.others-unknown-requires c).Start)
-
-pub loop-x-init : goal.loop-x-init
-loop-x-init c = (omega arith, finished_none c.requires.0)
 
 -- the unknown entries: as many as there are equations
 unknown : (c : After-others-unknown) →
@@ -59,11 +42,9 @@ unknown c =
 count : (c : Start) → length (others (c.args.g.shape.n + 1) c.args.helpers.now) ≡ c.args.g.shape.n - c.args.g.shape.k
 count c = omega (arith, others_length (c.args.g.shape.n + 1) c.args.helpers.now (more c), c.requires.0.count)
 
--- there are few sums
-few : (c : In-loop-x) → (c.loop-x.x < message_size c.args.g.shape c.args.dead.now) × (c.loop-x.x < most_size)
-few c =
-    let R = c.requires.0.ready in
-    (omega (arith, c.loop-x-test.true, R.share_is), omega (arith, c.loop-x-test.true, R.share_is, share_high R))
+-- sum x is one of the message's
+few : (c : In-loop-x) → c.loop-x.x < message_size c.args.g.shape c.args.dead.now
+few c = omega (arith, c.loop-x-test.true, c.requires.0.ready.share_is)
 
 -- the member of sum x, which the table has
 member : (c : In-loop-x) →
@@ -72,19 +53,13 @@ member : (c : In-loop-x) →
     × (get_or c.list_members.new.out (c.loop-x.x % a.g.members) 0 ≡ (spot_at a.g.shape a.dead.now a.u c.loop-x.x).a)
 member c =
     cycled c.requires.0.ready c.args.u c.list_members.new.out (rw c.rank_class.ensures at c.list_members.ensures)
-    (omega (arith, c.requires.1, c.list_members.auto.out)) c.loop-x.x (few c).0
+    (omega (arith, c.requires.1, c.list_members.auto.out)) c.loop-x.x (few c)
 
-pub nonzero_rem-a : goal.nonzero_rem-a
-nonzero_rem-a c = omega (arith, (member (goal.at.nonzero_rem-a c).In-loop-x).0)
-
-pub offset_bounds-class-x : goal.offset_bounds-class-x
-offset_bounds-class-x c = omega (arith, mod-le c.loop-x.x c.args.g.members, (few (goal.at.offset_bounds-class-x c).In-loop-x).1)
+pub nonzero_rem-x : goal.nonzero_rem-x
+nonzero_rem-x c = omega (arith, (member (goal.at.nonzero_rem-x c).In-loop-x).0)
 
 pub bounds-class-x : goal.bounds-class-x
 bounds-class-x c = (member (goal.at.bounds-class-x c).In-loop-x).1
-
-pub overflow_cast-a : goal.overflow_cast-a
-overflow_cast-a c = omega (arith, c.slice_known-in-loop-x-1.given (c.loop-x.x % c.args.g.members))
 
 pub slice_bounds-unknown-end : goal.slice_bounds-unknown-end
 slice_bounds-unknown-end c =
@@ -94,15 +69,20 @@ slice_bounds-unknown-end c =
 pub slice_bounds-answer-end : goal.slice_bounds-answer-end
 slice_bounds-answer-end c = sym (ap length (unknown (goal.at.slice_bounds-answer-end c).After-others-unknown) ∙ count (goal.at.slice_bounds-answer-end c).Start)
 
-pub overflow_mul-x : goal.overflow_mul-x
-overflow_mul-x c =
+-- the r sums of a symbol are among those kept
+room : (c : In-loop-x) →
     let s = c.args.g.shape in
-    let h : c.loop-x.x ≤ most_size = omega (arith, few (goal.at.overflow_mul-x c).In-loop-x) in
-    let r : s.n - s.k ≤ most_nodes = omega (arith, (bounded c.requires.0.ready).n_high) in
-    omega (arith, mul-le-mul h r)
+    c.loop-x.x * (s.n - s.k) + (s.n - s.k) ≤ length c.args.sums.now
+unfolding kept_size
+room c =
+    let s = c.args.g.shape in
+    omega (arith, row_within (message_size s c.args.dead.now) (s.n - s.k) c.loop-x.x (few c), c.requires.0.sums_long)
+
+pub overflow_mul-x : goal.overflow_mul-x
+overflow_mul-x c = omega (arith, room (goal.at.overflow_mul-x c).In-loop-x)
 
 pub answer-column-requires : goal.answer-column-requires
-unfolding node kept_size
+unfolding node
 answer-column-requires c =
     let s = c.args.g.shape in
     let R = c.requires.0.ready in
@@ -111,7 +91,7 @@ answer-column-requires c =
       few = (bounded R).n_high;
       node_below = (node_high R c.args.u c.requires.0.rank).0;
       up = rises_rising 0 (s.n + 1) _ (others_rise (s.n + 1) c.args.helpers.now (more (goal.at.answer-column-requires c).Start));
-      kept = omega (arith, count (goal.at.answer-column-requires c).Start, row_within (message_size s c.args.dead.now) (s.n - s.k) c.loop-x.x (few (goal.at.answer-column-requires c).In-loop-x).0, c.requires.0.sums_long);
+      kept = omega (arith, count (goal.at.answer-column-requires c).Start, room (goal.at.answer-column-requires c).In-loop-x);
     })
 
 pub put_pair-requires : goal.put_pair-requires
@@ -123,37 +103,17 @@ put_pair-requires c =
       (bounded R).n_high,
       c.answer-column.ensures.long,
       c.answer-column.ensures.low,
-      omega (arith, w.pairs_same, c.requires.0.pairs_long, (few (goal.at.put_pair-requires c).In-loop-x).0),
+      omega (arith, w.pairs_same, c.requires.0.pairs_long, (few (goal.at.put_pair-requires c).In-loop-x)),
     )
-
-pub send_sum-requires : goal.send_sum-requires
-send_sum-requires c =
-    let w = c.loop-x.invariant.1 in
-    (c.requires.0.ready, c.requires.0.rank, (few (goal.at.send_sum-requires c).In-loop-x).0, c.answer-column.ensures.long, c.answer-column.ensures.low, w.out_same ∙ c.requires.0.out_long)
-
-pub overflow_step-x : goal.overflow_step-x
-overflow_step-x c = omega (arith, few (goal.at.overflow_step-x c).In-loop-x)
-
-pub loop-x-smaller : goal.loop-x-smaller
-loop-x-smaller c = omega (arith, c.loop-x-test.true)
 
 pub loop-x-preserved : goal.loop-x-preserved
 unfolding node
 loop-x-preserved c =
     let l = c.loop-x in (
       omega (arith, c.loop-x-test.true),
-      finished_more c.requires.0 l.x c.answer-column.result l.pairs l.out _ _ (few (goal.at.loop-x-preserved c).In-loop-x).0 l.invariant.1 (rw (unknown (goal.at.loop-x-preserved c).After-others-unknown, (member (goal.at.loop-x-preserved c).In-loop-x).2) at c.answer-column.ensures)
+      finished_more c.requires.0 l.x c.answer-column.result l.pairs l.out _ _ (few (goal.at.loop-x-preserved c).In-loop-x) l.invariant.1 (rw (unknown (goal.at.loop-x-preserved c).After-others-unknown, c.from-a.ensures, (member (goal.at.loop-x-preserved c).In-loop-x).2) at c.answer-column.ensures)
           c.put_pair.ensures c.send_sum.ensures,
     )
-
-pub shape_of-class : goal.shape_of-class
-shape_of-class c = c.list_members.auto.out
-
-pub shape_of-pairs : goal.shape_of-pairs
-shape_of-pairs c = c.loop-x.invariant.1.pairs_same
-
-pub shape_of-out : goal.shape_of-out
-shape_of-out c = c.loop-x.invariant.1.out_same
 
 pub returns : goal.returns
 returns c =

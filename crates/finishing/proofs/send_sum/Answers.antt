@@ -7,7 +7,6 @@ use Rattle.lists.specs.Lists.{element}
 use Rattle.lists.proofs.Parts.{row_within}
 use Rattle.shape.specs.Shape.{most_nodes}
 use Rattle.classes.specs.Classes.{node, message_size}
-use Rattle.classes.specs.Steps.{other_rank}
 use Rattle.classes.proofs.Layouts.{bounded, node_high}
 use Rattle.classes.proofs.Placing.{other_is}
 use Rattle.finishing.proofs.Answers.{sent_none, sent_more}

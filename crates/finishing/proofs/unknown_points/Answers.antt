@@ -1,38 +1,29 @@
 -- `finishing::unknown_points` meets its contract. Assumes nothing.
-use mathlib.Core.Path.{◌≡◌}
-use Prim.Native.Nat.{◌-◌, ◌<◌}
-use native.Mathlib.Omega.{arith}
-use borrow.Author.Rules.{rules}
-use lib.ListN.{length, get_or, length-set}
-use Rattle.lists.specs.Lists.{element}
+use Rattle.std.proofs.Common.{◌≡◌, ◌≤◌, ◌<◌, length, length-take, ℕ, arith, rules}
+use Rattle.std.proofs.lemmas.List.{places}
 use Rattle.lists.proofs.Members.{rising_below}
 use Rattle.lists.proofs.Others.{rising_fits}
-use Rattle.lists.proofs.Stores.{stored_more}
-use Rattle.code.specs.Code.{narrow, more_points}
+use Rattle.column.specs.Solving.{most_entries}
 use Rattle.finishing.proofs.unknown_points.Goals as goal
-use Rattle.finishing.proofs.unknown_points.Goals.{After-entry_point}
+use Rattle.finishing.proofs.unknown_points.Goals.{Start}
 
-pub loop-j-init : goal.loop-j-init
-loop-j-init c = (search rules, search rules, search rules, λ k h. absurd (omega arith))
+few : (c : Start) → length c.args.unknown.now ≤ most_entries
+few c = omega (arith, rising_fits _ _ c.requires.2, c.requires.0)
+
+pub slice_bounds-out-end : goal.slice_bounds-out-end
+slice_bounds-out-end c = few (goal.at.slice_bounds-out-end c).Start
+
+pub slice_bounds-point-items-end : goal.slice_bounds-point-items-end
+slice_bounds-point-items-end c = omega (arith, few (goal.at.slice_bounds-point-items-end c).Start, length-take {A = ℕ})
 
 pub entry_point-requires : goal.entry_point-requires
-entry_point-requires c = (c.requires.0, c.requires.1, rising_below _ _ c.requires.2 c.loop-j.j (omega arith))
-
-room : (c : After-entry_point) → c.loop-j.j < length c.loop-j.out
-room c = omega (arith, rising_fits _ _ c.requires.2, c.requires.0, c.loop-j.invariant.2, c.loop-j-test.true)
-
-pub bounds-out-j : goal.bounds-out-j
-bounds-out-j c = omega (arith, room c)
-
-pub loop-j-preserved : goal.loop-j-preserved
-loop-j-preserved c =
-    let l = c.loop-j in
-    let a = c.args in (
-      search rules,
-      search rules,
-      simp length-set l.invariant.2,
-      stored_more (λ k x. x ≡ get_or (more_points narrow a.n a.a a.i) (element a.unknown.now k) 0) l.out l.j _ 0 (room c) l.invariant.3 c.entry_point.ensures,
-    )
+entry_point-requires c =
+    let j : c.loop-j.j < length c.args.unknown.now = omega (arith, length-take {A = ℕ}) in
+    (c.requires.0, c.requires.1, rising_below _ _ c.requires.2 c.loop-j.j j)
 
 pub returns : goal.returns
-returns c = λ j h. c.loop-j.invariant.3 j (omega arith)
+returns c =
+    let l = c.loop-j in
+    let f = few (goal.at.returns c).Start in
+    let n : length l.point-items ≡ length c.args.unknown.now = omega (arith, f, length-take {A = ℕ}) in
+    λ j h. search (rules, places, l.invariant)

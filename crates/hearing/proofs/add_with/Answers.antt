@@ -1,35 +1,23 @@
 -- `hearing::add_with` meets its contract: the sums of the symbols passed have them added, the others are as they were. Assumes nothing.
-use mathlib.Core.Path.{◌≡◌, refl, sym, ap, ◌∙◌}
-use Prim.Native.Nat.{◌+◌, ◌-◌, ◌*◌, ◌%◌, ◌≤◌, ◌<◌}
-use native.Mathlib.Nat.{mod-add-mod, mul-le-mul, zero-mod}
-use native.Mathlib.Omega.{arith}
-use lib.ListN.{length, get_or}
+use Rattle.std.proofs.Common.{◌≡◌, refl, ap, ◌∙◌, ◌+◌, ◌-◌, ◌*◌, ◌%◌, ◌≤◌, ◌<◌, length, arith}
+use native.Mathlib.Nat.{mod-add-mod}
+use lib.ListN.{get_or}
 use Rattle.lists.specs.Digits.{bit}
 use Rattle.lists.proofs.Parts.{row_within}
-use Rattle.shape.specs.Shape.{most_nodes}
-use Rattle.shape.proofs.Accepted.{shape_accepted, most_size}
-use Rattle.classes.specs.Classes.{rank_class, spot_at, message_size}
-use Rattle.classes.proofs.Layouts.{bounded, share_high}
+use Rattle.shape.proofs.Accepted.{shape_accepted}
+use Rattle.classes.specs.Classes.{spot_at, message_size}
+use Rattle.classes.proofs.Layouts.{bounded}
 use Rattle.arrival.specs.Sums.{kept_size}
 use Rattle.arrival.proofs.Members.{cycled}
-use Rattle.hearing.proofs.Adding.{none_added, added_row, added_all}
+use Rattle.hearing.proofs.Adding.{added_row, added_all}
 use Rattle.hearing.proofs.add_with.Goals as goal
 use Rattle.hearing.proofs.add_with.Goals.{In-loop-x}
 
 pub overflow_sub-r : goal.overflow_sub-r
 overflow_sub-r c = omega (arith, (shape_accepted c.args.g.shape c.requires.0.ready.shaped).k_high)
 
-pub rank_class-requires : goal.rank_class-requires
-rank_class-requires c = c.requires.0.ready
-
-pub list_members-requires : goal.list_members-requires
-list_members-requires c = (c.requires.0.ready, c.requires.1)
-
 pub both_powers-factors-requires : goal.both_powers-factors-requires
 both_powers-factors-requires c = let b = bounded c.requires.0.ready in (omega (arith, b.n_high), omega (arith, b.n_high, c.requires.0.node))
-
-pub loop-x-init : goal.loop-x-init
-loop-x-init c = (omega arith, sym (zero-mod _), none_added _ _ _)
 
 -- the member of sum x, which the table has
 member : (c : In-loop-x) →
@@ -41,20 +29,11 @@ member c =
     (cycled c.requires.0.ready c.args.u c.list_members.new.out (rw c.rank_class.ensures at c.list_members.ensures)
     (omega (arith, c.requires.1, c.list_members.auto.out)) c.loop-x.x (omega (arith, c.loop-x-test.true, c.requires.0.message_long)))
 
-pub offset_bounds-class-j : goal.offset_bounds-class-j
-offset_bounds-class-j c = omega (arith, (member c).1)
-
 pub bounds-class-j : goal.bounds-class-j
 bounds-class-j c = (member (goal.at.bounds-class-j c).In-loop-x).1
 
-pub overflow_cast-row : goal.overflow_cast-row
-overflow_cast-row c = omega (arith, c.slice_known-in-loop-x-1.given c.loop-x.j)
-
 pub overflow_shr-row : goal.overflow_shr-row
 overflow_shr-row c = omega (arith, (bounded c.requires.0.ready).n_high, c.requires.0.node)
-
-pub slice_bounds-add_symbol-end : goal.slice_bounds-add_symbol-end
-slice_bounds-add_symbol-end c = sym c.both_powers-factors.ensures.long
 
 -- the r sums of a symbol are among those kept
 room : (c : In-loop-x) →
@@ -67,30 +46,16 @@ room c =
     let h : l.x < message_size s c.args.dead.now = omega (arith, c.loop-x-test.true, c.requires.0.message_long) in
     omega (arith, row_within (message_size s c.args.dead.now) (s.n - s.k) l.x h, l.invariant.2.long, c.requires.0.sums_long)
 
--- a message has few symbols
-few : (c : In-loop-x) → c.loop-x.x < most_size
-few c = omega (arith, c.loop-x-test.true, c.requires.0.message_long, share_high c.requires.0.ready)
-
 pub overflow_mul-x : goal.overflow_mul-x
-overflow_mul-x c =
-    let s = c.args.g.shape in
-    let h : c.loop-x.x ≤ most_size = omega (arith, few (goal.at.overflow_mul-x c).In-loop-x) in
-    let r : s.n - s.k ≤ most_nodes = omega (arith, (bounded c.requires.0.ready).n_high) in
-    omega (arith, mul-le-mul h r)
+overflow_mul-x c = omega (arith, room (goal.at.overflow_mul-x c).In-loop-x)
 
 pub add_symbol-requires : goal.add_symbol-requires
 add_symbol-requires c =
     let p = c.both_powers-factors.ensures in
-    (omega (arith, p.long, (bounded c.requires.0.ready).n_high), omega (arith, room (goal.at.add_symbol-requires c).In-loop-x), p.low)
+    (omega (arith, p.long, (bounded c.requires.0.ready).n_high), room (goal.at.add_symbol-requires c).In-loop-x, p.low)
 
 pub next_member-j-requires : goal.next_member-j-requires
 next_member-j-requires c = (member (goal.at.next_member-j-requires c).In-loop-x).0
-
-pub overflow_step-x : goal.overflow_step-x
-overflow_step-x c = omega (arith, few (goal.at.overflow_step-x c).In-loop-x)
-
-pub loop-x-smaller : goal.loop-x-smaller
-loop-x-smaller c = omega (arith, c.loop-x-test.true)
 
 pub loop-x-preserved : goal.loop-x-preserved
 unfolding bit
@@ -102,12 +67,6 @@ loop-x-preserved c =
       added_row a.g.shape a.dead.now a.u a.helper a.message.now a.sums.now c.both_powers-factors.result c.both_powers-factors.ensures l.x _ _ l.sums _
           (member (goal.at.loop-x-preserved c).In-loop-x).2 refl l.invariant.2 c.add_symbol.ensures,
     )
-
-pub shape_of-class : goal.shape_of-class
-shape_of-class c = c.list_members.auto.out
-
-pub shape_of-sums : goal.shape_of-sums
-shape_of-sums c = c.loop-x.invariant.2.long
 
 pub returns : goal.returns
 returns c =

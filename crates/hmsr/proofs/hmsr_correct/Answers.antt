@@ -1,8 +1,6 @@
 -- `hmsr::hmsr_correct` meets its contract: a signed number is handed on as its bits, which give it back. Assumes nothing.
-use borrow.Author.Rules.{rules}
 use mir.Facts.{to_z-of_z}
 use Rattle.hmsr.proofs.hmsr_correct.Goals as goal
-use Rattle.hmsr.proofs.hmsr_correct.Goals.{Start}
 
 pub returns : goal.returns
 returns c =

@@ -1,10 +1,8 @@
 -- `hmsr::hmsr_unpack` meets its contract: the part of the symbols' buffer comes back in place, and the header's buffer has six numbers. Assumes nothing.
 use mathlib.Core.Path.{sym}
-use borrow.Author.Rules.{rules}
 use lib.Seq.{length-take-le}
 use Rattle.returned.proofs.Cards.{room_within, unpack_refused, header_six, unpack_done}
 use Rattle.hmsr.proofs.hmsr_unpack.Goals as goal
-use Rattle.hmsr.proofs.hmsr_unpack.Goals.{After-unpack}
 
 pub slice_bounds-unpack-end : goal.slice_bounds-unpack-end
 slice_bounds-unpack-end c = rw c.unpack_room-room.ensures (room_within _ _)
@@ -14,13 +12,13 @@ slice_bounds-unpack-end-2 c = sym (length-take-le _ _ (rw c.unpack_room-room.ens
 
 pub store_header-requires : goal.store_header-requires
 store_header-requires c =
-    header_six _ _ c.args.header.now _ _ c.unpack_room-room.ensures _ c.unpack.ensures _ c.in-Header.is
+    header_six _ _ c.args.header.now _ _ c.unpack_room-room.ensures _ c.unpack.ensures _ c.in-Ok.is
 
-pub returns-in-Refused : goal.returns-in-Refused
-returns-in-Refused c =
-    rw c.number_of.ensures (unpack_refused _ _ _ _ _ c.unpack_room-room.ensures _ c.unpack.ensures _ c.in-Refused.is)
+pub returns-in-Err : goal.returns-in-Err
+returns-in-Err c =
+    rw c.from.ensures (unpack_refused _ _ _ _ _ c.unpack_room-room.ensures _ c.unpack.ensures _ c.in-Err.is)
 
-pub returns-in-Header : goal.returns-in-Header
-returns-in-Header c =
-    unpack_done _ _ _ _ _ c.unpack_room-room.ensures _ c.unpack.ensures _ c.in-Header.is _
+pub returns-in-Ok : goal.returns-in-Ok
+returns-in-Ok c =
+    unpack_done _ _ _ _ _ c.unpack_room-room.ensures _ c.unpack.ensures _ c.in-Ok.is _
     c.store_header.ensures

@@ -1,20 +1,13 @@
 -- `inverting::invert` meets its contract: the last element first. Assumes nothing.
-use mathlib.Core.Path.{◌≡◌, sym, ap, ◌∙◌}
-use Prim.Native.Nat.{◌+◌, ◌-◌, ◌*◌, ◌%◌, ◌<◌}
-use native.Mathlib.Omega.{arith}
-use borrow.Author.Rules.{rules}
-use lib.ListN.{length}
-use lib.Seq.{get_or-set_other}
+use Rattle.std.proofs.Common.{◌≡◌, ◌+◌, ◌-◌, ◌*◌, ◌%◌, sym, ap, ◌∙◌, length, get_or-set_other, arith}
 use Rattle.lists.specs.Lists.{element}
 use Rattle.inverting.specs.Inverses.{product, Pivots}
 use Rattle.inverting.proofs.Inverses.{product_small, product_nonzero, inverts_pivot, inverts_rest, inverted_none, inverted_more}
 use Rattle.inverting.proofs.invert.Goals as goal
-use Rattle.inverting.proofs.invert.Goals.{In-loop-i}
 
 pub loop-i-init : goal.loop-i-init
 loop-i-init c =
     let w = c.products.ensures in (
-      search rules,
       inverted_none _ _ _ (w.long ∙ c.requires.1),
       w.each,
       λ v.
@@ -24,32 +17,15 @@ loop-i-init c =
           (rw w.whole (product_small c.args.q _ (element c.args.row.now) v (length c.args.row.now))),
     )
 
--- the slice has an element for each of the row
-room : (c : In-loop-i) → c.loop-i.i - 1 < length c.loop-i.out
-room c = let l = c.loop-i in omega (arith, l.invariant.1.long)
-
 pub loop-i-preserved : goal.loop-i-preserved
 loop-i-preserved c =
     let l = c.loop-i in
     let a = c.args in
     let i = l.i - 1 in
     let next : l.i ≡ i + 1 = omega arith in
-    let one : Pivots a.q (length a.row.now) (element a.row.now) → (product a.q (element a.row.now) (i + 1) * l.rest) % a.q ≡ 1 = λ w. rw (sym next) (l.invariant.3 w) in (
-      search rules,
-      inverted_more a.q a.row.now i _ l.out (omega arith) (rw next at l.invariant.1) c.multiply.ensures.0
-          (λ w. inverts_pivot a.q (element a.row.now) i l.rest (one w) _ _ (l.invariant.2 i (omega arith)) c.multiply.ensures.1),
-      λ k h. get_or-set_other l.out i k _ 0 (λ e. omega arith) ∙ l.invariant.2 k (omega arith),
+    let one : Pivots a.q (length a.row.now) (element a.row.now) → (product a.q (element a.row.now) (i + 1) * l.rest) % a.q ≡ 1 = λ w. rw (sym next) (l.invariant.2 w) in (
+      inverted_more a.q a.row.now i _ l.out (omega arith) (rw next at l.invariant.0) c.multiply.ensures.0
+          (λ w. inverts_pivot a.q (element a.row.now) i l.rest (one w) _ _ (l.invariant.1 i (omega arith)) c.multiply.ensures.1),
+      λ k h. get_or-set_other l.out i k _ 0 (λ e. omega arith) ∙ l.invariant.1 k (omega arith),
       λ w. inverts_rest a.q (element a.row.now) i l.rest (one w) _ c.multiply-rest.ensures.1,
     )
-
-pub shape_of-out : goal.shape_of-out
-shape_of-out c = c.loop-i.invariant.1.long ∙ sym c.requires.1
-
-pub bounds-out-i : goal.bounds-out-i
-bounds-out-i c = room (goal.at.bounds-out-i c).In-loop-i
-
-pub bounds-out-i-in-loop-i : goal.bounds-out-i-in-loop-i
-bounds-out-i-in-loop-i c = room (goal.at.bounds-out-i-in-loop-i c).In-loop-i
-
-pub returns : goal.returns
-returns c = let l = c.loop-i in let e : l.i ≡ 0 = omega arith in rw e at l.invariant.1

@@ -19,35 +19,35 @@ use Rattle.code.specs.Code.{narrow}
 use Rattle.judging.specs.Refusals.{node_good}
 use Rattle.judging.proofs.helpers_bad.Invariants.{good}
 use Rattle.judging.proofs.helpers_bad.Goals as goal
-use Rattle.judging.proofs.helpers_bad.Goals.{In-loop-j}
+use Rattle.judging.proofs.helpers_bad.Goals.{In-loop-helper}
 
-pub loop-j-init : goal.loop-j-init
-loop-j-init c = (search rules, refl)
+pub loop-helper-init : goal.loop-helper-init
+loop-helper-init c = (search rules, refl)
 
 -- a helper's symbols are within the nodes
-within : (c : In-loop-j) →
+within : (c : In-loop-helper) →
     let a = c.args in
-    let i = get_or a.helpers.now c.loop-j.j 0 in
+    let i = get_or a.helpers.now c.loop-helper.helper-index 0 in
     (i * c.size-full.result + c.size-full.result ≤ length a.nodes.now) × (length a.nodes.now ≤ most_nodes * most_size)
 within c =
     let e = c.size-full.ensures in
     let h = shape_accepted _ c.requires.0 in
-    let l = rising_below _ _ c.requires.1 c.loop-j.j c.loop-j-test.true in (
-      rw e (omega (arith, mul-le-mul_right (size c.args.s) l, suc-mul (get_or c.args.helpers.now c.loop-j.j 0) (size c.args.s), c.requires.2)),
+    let l = rising_below _ _ c.requires.1 c.loop-helper.helper-index c.loop-helper-test.true in (
+      rw e (omega (arith, mul-le-mul_right (size c.args.s) l, suc-mul (get_or c.args.helpers.now c.loop-helper.helper-index 0) (size c.args.s), c.requires.2)),
       omega (arith, c.requires.2, mul-le-mul h.n_high h.size_high),
     )
 
 pub overflow_mul-at : goal.overflow_mul-at
-overflow_mul-at c = omega (arith, within (goal.at.overflow_mul-at c).In-loop-j)
+overflow_mul-at c = omega (arith, within (goal.at.overflow_mul-at c).In-loop-helper)
 
 pub overflow_add-end : goal.overflow_add-end
-overflow_add-end c = omega (arith, within (goal.at.overflow_add-end c).In-loop-j)
+overflow_add-end c = omega (arith, within (goal.at.overflow_add-end c).In-loop-helper)
 
 pub offset_bounds-nodes-at : goal.offset_bounds-nodes-at
-offset_bounds-nodes-at c = omega (arith, within (goal.at.offset_bounds-nodes-at c).In-loop-j)
+offset_bounds-nodes-at c = omega (arith, within (goal.at.offset_bounds-nodes-at c).In-loop-helper)
 
 pub slice_bounds-symbol_bad-end : goal.slice_bounds-symbol_bad-end
-slice_bounds-symbol_bad-end c = (within (goal.at.slice_bounds-symbol_bad-end c).In-loop-j).0
+slice_bounds-symbol_bad-end c = (within (goal.at.slice_bounds-symbol_bad-end c).In-loop-helper).0
 
 -- what the symbols lent tell of the helper
 back : (a t : Bool) → t ≡ not a → a ≡ not t
@@ -64,16 +64,16 @@ same s nodes helpers full e = rw e refl
 
 pub returns-then-symbol_bad : goal.returns-then-symbol_bad
 returns-then-symbol_bad c =
-    let l = c.loop-j in
+    let l = c.loop-helper in
     sym
     (ap not
     (same _ _ _ _ c.size-full.ensures ∙ l.invariant.1
-    ∙ all_fail _ _ _ c.loop-j-test.true (tells _ _ _ _ c.symbol_bad.ensures ∙ ap not c.if-symbol_bad.true)))
+    ∙ all_fail _ _ _ c.loop-helper-test.true (tells _ _ _ _ c.symbol_bad.ensures ∙ ap not c.if-symbol_bad.true)))
 
-pub loop-j-preserved : goal.loop-j-preserved
-loop-j-preserved c =
-    let l = c.loop-j in
-    (search rules, l.invariant.1 ∙ all_pass _ _ _ c.loop-j-test.true (tells _ _ _ _ c.symbol_bad.ensures ∙ ap not c.if-symbol_bad.false))
+pub loop-helper-preserved : goal.loop-helper-preserved
+loop-helper-preserved c =
+    let l = c.loop-helper in
+    (search rules, l.invariant.1 ∙ all_pass _ _ _ c.loop-helper-test.true (tells _ _ _ _ c.symbol_bad.ensures ∙ ap not c.if-symbol_bad.false))
 
 pub returns : goal.returns
-returns c = sym (ap not (same _ _ _ _ c.size-full.ensures ∙ c.loop-j.invariant.1 ∙ all_end _ _ _ c.loop-j-test.false))
+returns c = sym (ap not (same _ _ _ _ c.size-full.ensures ∙ c.loop-helper.invariant.1 ∙ all_end _ _ _ c.loop-helper-test.false))

@@ -12,8 +12,5 @@ use Rattle.judging.proofs.helpers_bad.Given as goal
 abbrev pub good : ℕ → List ℕ → ℕ → Bool
 good full nodes i = all (below narrow.modulus) (piece full i nodes)
 
-abbrev pub invariant-loop-j : goal.invariant-loop-j
-invariant-loop-j l = (l.j ≤ length l.helpers) × (all (good l.full l.nodes) l.helpers ≡ all (good l.full l.nodes) (drop l.j l.helpers))
-
-abbrev pub decreases-loop-j : goal.decreases-loop-j
-decreases-loop-j l = length l.helpers - l.j
+abbrev pub invariant-loop-helper : goal.invariant-loop-helper
+invariant-loop-helper l = (l.helper-index ≤ length l.helpers) × (all (good l.full l.nodes) l.helpers ≡ all (good l.full l.nodes) (drop l.helper-index l.helpers))

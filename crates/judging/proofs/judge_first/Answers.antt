@@ -8,41 +8,42 @@ use Rattle.lists.specs.Lists.{outside}
 use Rattle.shape.specs.Refusals.{wrong_length}
 use Rattle.shape.specs.Shape.{most_nodes}
 use Rattle.classes.specs.Classes.{message_size}
+use Rattle.shape.proofs.Answers.{handed_on}
 use Rattle.judging.specs.Refusals.{first_step_refusal}
 use Rattle.judging.proofs.Judged.{Listed, small, share_fits, judged_stop, judged_listed, judged_length, judged_symbols, judged_done}
 use Rattle.judging.proofs.judge_first.Goals as goal
-use Rattle.judging.proofs.judge_first.Goals.{In-Done}
+use Rattle.judging.proofs.judge_first.Goals.{In_ok-judge_lists}
 
-pub returns-in_default : goal.returns-in_default
+pub returns-in_err-judge_lists : goal.returns-in_err-judge_lists
 unfolding first_step_refusal outside
-returns-in_default c =
-    rw (← c.listed.ensures) (judged_stop _ _ _ _ _ c.judge_lists-lists.ensures _ c.in_default.is _)
+returns-in_err-judge_lists c =
+    rw (handed_on _ c.from_residual.ensures.1, ← c.listed.ensures) (judged_stop _ _ _ _ _ c.judge_lists.ensures _ c.in_err-judge_lists.was _)
 
-known : (c : In-Done) → let a = c.args in Listed a.s a.dead.now a.helpers.now (not c.listed.result)
-known c = judged_listed _ _ _ _ _ c.judge_lists-lists.ensures c.in-Done.is
+known : (c : In_ok-judge_lists) → let a = c.args in Listed a.s a.dead.now a.helpers.now (not c.listed.result)
+known c = judged_listed _ _ _ _ _ c.judge_lists.ensures c.in_ok-judge_lists.was
 
 pub size-requires : goal.size-requires
 size-requires c = (known c).shaped
 
 pub overflow_add-k : goal.overflow_add-k
-overflow_add-k c = let m = small _ _ _ _ (known (goal.at.overflow_add-k c).In-Done) in omega (arith, m.few, m.n_high)
+overflow_add-k c = let m = small _ _ _ _ (known (goal.at.overflow_add-k c).In_ok-judge_lists) in omega (arith, m.few, m.n_high)
 
 pub overflow_mul-k : goal.overflow_mul-k
 overflow_mul-k c =
-    let k = known (goal.at.overflow_mul-k c).In-Done in
+    let k = known (goal.at.overflow_mul-k c).In_ok-judge_lists in
     let m = small _ _ _ _ k in
     let h : c.args.s.k + 1 ≤ most_nodes * most_nodes = omega (arith, m.few, m.n_high) in
     omega (arith, share_fits _ _ _ _ k _ _ h c.size.ensures)
 
 pub overflow_mul-share : goal.overflow_mul-share
-overflow_mul-share c = omega (arith, share_fits _ _ _ _ (known (goal.at.overflow_mul-share c).In-Done) 2 _ (omega arith) c.size.ensures)
+overflow_mul-share c = omega (arith, share_fits _ _ _ _ (known (goal.at.overflow_mul-share c).In_ok-judge_lists) 2 _ (omega arith) c.size.ensures)
 
 pub overflow_sub-h : goal.overflow_sub-h
-overflow_sub-h c = (small _ _ _ _ (known (goal.at.overflow_sub-h c).In-Done)).some
+overflow_sub-h c = (small _ _ _ _ (known (goal.at.overflow_sub-h c).In_ok-judge_lists)).some
 
 pub overflow_mul-h : goal.overflow_mul-h
 overflow_mul-h c =
-    let k = known (goal.at.overflow_mul-h c).In-Done in
+    let k = known (goal.at.overflow_mul-h c).In_ok-judge_lists in
     let m = small _ _ _ _ k in
     let h : length c.args.dead.now - 1 ≤ most_nodes * most_nodes = omega (arith, m.few, m.n_high) in
     omega (arith, share_fits _ _ _ _ k _ _ h c.size.ensures)
@@ -51,16 +52,16 @@ pub returns-then-messages-k : goal.returns-then-messages-k
 unfolding first_step_refusal outside wrong_length message_size
 returns-then-messages-k c =
     rw (← c.listed.ensures)
-    (judged_length _ _ _ _ _ c.judge_lists-lists.ensures c.in-Done.is _ _ (rw c.size.ensures at c.if-messages-k.true))
+    (judged_length _ _ _ _ _ c.judge_lists.ensures c.in_ok-judge_lists.was _ _ (rw c.size.ensures at c.if-messages-k.true))
 
 pub returns-then-symbol_bad : goal.returns-then-symbol_bad
 unfolding first_step_refusal outside wrong_length message_size
 returns-then-symbol_bad c =
     rw (← c.listed.ensures)
-    (judged_symbols _ _ _ _ _ c.judge_lists-lists.ensures c.in-Done.is _ _ (rw c.size.ensures at c.if-messages-k.false) (sym c.symbol_bad.ensures ∙ c.if-symbol_bad.true))
+    (judged_symbols _ _ _ _ _ c.judge_lists.ensures c.in_ok-judge_lists.was _ _ (rw c.size.ensures at c.if-messages-k.false) (sym c.symbol_bad.ensures ∙ c.if-symbol_bad.true))
 
 pub returns : goal.returns
 unfolding first_step_refusal outside wrong_length message_size
 returns c =
     rw (← c.listed.ensures)
-    (judged_done _ _ _ _ _ c.judge_lists-lists.ensures c.in-Done.is _ _ (rw c.size.ensures at c.if-messages-k.false) (sym c.symbol_bad.ensures ∙ c.if-symbol_bad.false))
+    (judged_done _ _ _ _ _ c.judge_lists.ensures c.in_ok-judge_lists.was _ _ (rw c.size.ensures at c.if-messages-k.false) (sym c.symbol_bad.ensures ∙ c.if-symbol_bad.false))

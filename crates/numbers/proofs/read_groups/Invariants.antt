@@ -1,11 +1,6 @@
 -- `numbers::read_groups` meets its contract: the number at the place goes on behind the groups that were read.
-use Prim.Native.Nat.{◌-◌}
-use Rattle.numbers.specs.Numbers.{most_groups}
 use Rattle.numbers.proofs.Groups.{Reading}
 use Rattle.numbers.proofs.read_groups.Given as goal
 
 abbrev pub invariant-loop-groups : goal.invariant-loop-groups
 invariant-loop-groups l = Reading l.bytes l.at l.value l.worth l.place l.groups
-
-abbrev pub decreases-loop-groups : goal.decreases-loop-groups
-decreases-loop-groups l = most_groups - l.groups

@@ -3,14 +3,10 @@ use mathlib.Core.Path.{refl}
 use mathlib.Core.List.{[]}
 use Prim.Native.Nat.{◌-◌}
 use native.Mathlib.Omega.{arith}
-use borrow.Author.Rules.{rules}
-use Rattle.lists.proofs.Writing.{writing_all, writing_next, writing_room, writing_end}
+use Rattle.lists.proofs.Writing.{writing_next, writing_room, writing_end}
 use Rattle.numbers.specs.Numbers.{most_groups}
 use Rattle.numbers.proofs.Numbers.{numeral_one, numeral_some, numeral_next}
 use Rattle.numbers.proofs.write_number.Goals as goal
-
-pub loop-rest-init : goal.loop-rest-init
-loop-rest-init c = (search rules, writing_all _ _ _)
 
 pub bounds-card-place : goal.bounds-card-place
 bounds-card-place c = omega (arith, writing_room c.loop-rest.invariant.1 c.requires.1, numeral_some (most_groups - 1) c.loop-rest.rest)

@@ -1,30 +1,17 @@
--- `numbers::write_symbols` meets its contract: the numerals from symbol i on are still to be written.
-use Prim.Native.Nat.{◌<◌}
+-- `numbers::write_symbols` meets its contract: the numerals of the symbols that were not reached are still to be written.
 use native.Mathlib.Omega.{arith}
-use borrow.Author.Rules.{rules}
-use lib.ListN.{length}
-use Rattle.numbers.proofs.Numerals.{numerals_all, numerals_room, numerals_next, numerals_end}
+use Rattle.numbers.proofs.Numerals.{numerals_room, numerals_next, numerals_end}
 use Rattle.numbers.proofs.write_symbols.Goals as goal
-
-pub loop-i-init : goal.loop-i-init
-loop-i-init c = (search rules, numerals_all _ _ _)
 
 pub write_number-place-requires : goal.write_number-place-requires
 write_number-place-requires c =
-    let l = c.loop-i in
-    let a = c.args in
-    let h : l.i < length a.symbols.now = omega arith in
-    let pre = c.requires in
-    (omega (arith, c.type_inv.symbols l.i), numerals_room _ _ _ l.i _ _ l.invariant.1 pre h)
+    let l = c.loop-symbol in
+    rw c.from.ensures (omega (arith, c.type_inv.symbols l.symbol-index), numerals_room _ _ _ _ _ _ l.invariant c.requires c.loop-symbol-test.true)
 
-pub overflow_cast-symbols : goal.overflow_cast-symbols
-overflow_cast-symbols c = omega (arith, c.type_inv.symbols c.loop-i.i)
-
-pub loop-i-preserved : goal.loop-i-preserved
-loop-i-preserved c =
-    let l = c.loop-i in
-    let ensured = c.write_number-place.ensures in
-    (search rules, numerals_next _ _ _ l.i _ _ l.invariant.1 _ _ (omega arith) ensured.0 ensured.1)
+pub loop-symbol-preserved : goal.loop-symbol-preserved
+loop-symbol-preserved c =
+    let w = rw c.from.ensures at c.write_number-place.ensures in
+    numerals_next _ _ _ _ _ _ c.loop-symbol.invariant _ _ c.loop-symbol-test.true w.0 w.1
 
 pub returns : goal.returns
-returns c = numerals_end _ _ _ _ _ _ c.loop-i.invariant.1 c.loop-i-test.false
+returns c = numerals_end _ _ _ _ _ _ c.loop-symbol.invariant c.loop-symbol-test.false

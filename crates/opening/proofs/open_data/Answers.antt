@@ -1,9 +1,10 @@
 -- `opening::open_data` meets its contract. Assumes nothing.
-use mathlib.Core.Bool.{false≢true}
-use mathlib.Core.Path.{refl}
 use native.Mathlib.Omega.{arith}
 use Rattle.shape.proofs.Accepted.{shape_accepted}
 use Rattle.code.proofs.Accepted.{open_accepted}
+use borrow.Author.Rules.{rules}
+use Rattle.rows.proofs.Rows.{low_replicate}
+use Rattle.tables.specs.Tables.{table_size}
 use Rattle.opening.specs.Steps.{Readable}
 use Rattle.opening.proofs.Judged.{readable}
 use Rattle.opening.proofs.open_data.Goals as goal
@@ -29,25 +30,16 @@ pub marks-marked-requires : goal.marks-marked-requires
 marks-marked-requires c = omega (arith, (shape_accepted _ (read (goal.at.marks-marked-requires c).Start).shape).n_high)
 
 pub pays-requires : goal.pays-requires
-pays-requires c = (shape_accepted _ (read (goal.at.pays-requires c).Start).shape).n_high
+pays-requires c = omega (arith, (shape_accepted _ (read (goal.at.pays-requires c).Start).shape).n_high)
 
-pub open_from_few-requires : goal.open_from_few-requires
-open_from_few-requires c = (c.requires, c.marks-marked.ensures, c.pays.ensures c.if-pays.true)
-
-pub shape_of-transcript-then-pays : goal.shape_of-transcript-then-pays
-shape_of-transcript-then-pays c = c.open_from_few.ensures.long
-
-pub returns-then-pays : goal.returns-then-pays
-returns-then-pays c = c.open_from_few.ensures
-
-pub slice_bounds-judge_and_store-end : goal.slice_bounds-judge_and_store-end
-slice_bounds-judge_and_store-end c = refl
-
-pub judge_and_store-requires : goal.judge_and_store-requires
-judge_and_store-requires c = (c.requires, c.marks-marked.ensures, λ z. absurd (false≢true z))
+pub represent-requires : goal.represent-requires
+represent-requires c =
+    let r = read (goal.at.represent-requires c).Start in
+    let w = shape_accepted _ r.shape in
+    (w.n_high, omega (arith, w.k_high), c.pays.ensures (search rules), r.up, c.marks-marked.ensures, search rules, low_replicate _ table_size 0 (omega arith))
 
 pub shape_of-transcript : goal.shape_of-transcript
-shape_of-transcript c = c.judge_and_store.ensures.long
+shape_of-transcript c = c.judge_and_store-2.ensures.long
 
 pub returns : goal.returns
-returns c = c.judge_and_store.ensures
+returns c = c.judge_and_store-2.ensures

@@ -1,10 +1,9 @@
 -- `opening::open_listed` meets its contract. Assumes nothing.
 use mathlib.Core.Bool.{true}
-use mathlib.Core.Path.{◌≡◌, refl, ◌∙◌, subst}
-use Prim.Native.Nat.{◌+◌, ◌-◌, ◌*◌, ◌≤◌, ◌<◌}
+use mathlib.Core.Path.{◌≡◌, ◌∙◌, subst}
+use Prim.Native.Nat.{◌+◌, ◌*◌, ◌≤◌, ◌<◌}
 use native.Mathlib.Omega.{arith}
 use native.Mathlib.Nat.{mul-le-mul, mul-le-mul_right}
-use borrow.Author.Rules.{rules}
 use lib.ListN.{length, get_or}
 use Rattle.shape.specs.Shape.{size, most_nodes}
 use Rattle.shape.proofs.Accepted.{shape_accepted, most_size}
@@ -44,12 +43,12 @@ pub size-each-requires : goal.size-each-requires
 size-each-requires c = c.requires.0.shape
 
 pub loop-j-init : goal.loop-j-init
-loop-j-init c = (search rules, refl, walked_none _ _ _ _ _)
+loop-j-init c = walked_none _ _ _ _ _
 
 pub loop-j-preserved-then-s-node : goal.loop-j-preserved-then-s-node
 loop-j-preserved-then-s-node c =
     let l = c.loop-j in
-    (search rules, refl, walked_skip _ _ _ _ _ l.j _ l.invariant.2 (λ e d. omega (arith, d.0, c.if-s-node.true)))
+    walked_skip _ _ _ _ _ l.j _ l.invariant (λ e d. omega (arith, d.0, c.if-s-node.true))
 
 pub overflow_mul-from : goal.overflow_mul-from
 overflow_mul-from c = omega (arith, within c)
@@ -67,27 +66,27 @@ pub slice_bounds-open_row-end : goal.slice_bounds-open_row-end
 slice_bounds-open_row-end c = omega (arith, within c)
 
 pub open_row-requires : goal.open_row-requires
-open_row-requires c = (c.requires.1, omega (arith, c.requires.2, c.loop-j.invariant.2.long))
+open_row-requires c = (c.requires.1, omega (arith, c.requires.2, c.loop-j.invariant.long))
 
 pub shape_of-transcript-then-not-open_row : goal.shape_of-transcript-then-not-open_row
-shape_of-transcript-then-not-open_row c = (walked (goal.at.shape_of-transcript-then-not-open_row c).After-open_row).long ∙ c.loop-j.invariant.2.long
+shape_of-transcript-then-not-open_row c = (walked (goal.at.shape_of-transcript-then-not-open_row c).After-open_row).long ∙ c.loop-j.invariant.long
 
 pub returns-then-not-open_row : goal.returns-then-not-open_row
 returns-then-not-open_row c =
     let l = c.loop-j in
-    walked_ends _ _ _ _ _ l.j _ l.invariant.2 _ _ (walked (goal.at.returns-then-not-open_row c).After-open_row) _ (below (goal.at.returns-then-not-open_row c).In-loop-j) c.if-not-open_row.true
+    walked_ends _ _ _ _ _ l.j _ l.invariant _ _ (walked (goal.at.returns-then-not-open_row c).After-open_row) _ (below (goal.at.returns-then-not-open_row c).In-loop-j) c.if-not-open_row.true
 
 pub loop-j-preserved : goal.loop-j-preserved
 loop-j-preserved c =
     let l = c.loop-j in
-    (omega (arith, c.loop-j-test.true), refl, walked_on _ _ _ _ _ l.j _ l.invariant.2 _ _ (walked (goal.at.loop-j-preserved c).After-open_row) c.if-not-open_row.false)
+    walked_on _ _ _ _ _ l.j _ l.invariant _ _ (walked (goal.at.loop-j-preserved c).After-open_row) c.if-not-open_row.false
 
 pub shape_of-transcript : goal.shape_of-transcript
-shape_of-transcript c = c.loop-j.invariant.2.long
+shape_of-transcript c = c.loop-j.invariant.long
 
 pub returns : goal.returns
 returns c =
     let l = c.loop-j in
     let a = c.args in
-    let e : l.j ≡ a.s.k = omega (arith, l.invariant.0, c.requires.0.count) in
-    subst (λ m. Walked (opened a.s a.list.now a.symbols.now) a.len a.room (OneOf m (OfListed a.s a.list.now)) a.transcript.now l.transcript true) e l.invariant.2
+    let e : l.j ≡ a.s.k = omega (arith, c.loop-j-test.false, c.requires.0.count) in
+    subst (λ m. Walked (opened a.s a.list.now a.symbols.now) a.len a.room (OneOf m (OfListed a.s a.list.now)) a.transcript.now l.transcript true) e l.invariant

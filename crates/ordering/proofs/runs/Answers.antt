@@ -1,7 +1,7 @@
 -- `ordering::runs` meets its contract: each transfer so far may follow those before it, and the table has what they have sent. Assumes nothing.
 use mathlib.Core.Path.{◌≡◌, sym, ap, subst, ◌∙◌}
 use mathlib.Core.Bool.{true}
-use Prim.Native.Nat.{◌+◌, ◌*◌, ◌/◌, ◌-◌, ◌<◌}
+use Prim.Native.Nat.{◌+◌, ◌*◌, ◌/◌, ◌<◌}
 use native.Mathlib.Omega.{arith}
 use lib.ListN.{length, get_or, take, set}
 use Rattle.lists.proofs.Tests.{each_more}
@@ -127,12 +127,6 @@ overflow_add-sent c = omega (arith, (small_read c).0, (small_read c).1)
 
 pub bounds-sent-sender : goal.bounds-sent-sender
 bounds-sent-sender c = omega (arith, (small_read c).0, (small_read c).1)
-
-pub overflow_add-x : goal.overflow_add-x
-overflow_add-x c = omega (arith, few (goal.at.overflow_add-x c).In-loop-x)
-
-pub loop-x-smaller : goal.loop-x-smaller
-loop-x-smaller c = omega (arith, c.loop-x-test.true)
 
 pub loop-x-preserved : goal.loop-x-preserved
 loop-x-preserved c =

@@ -1,6 +1,6 @@
--- `pairing::first_into` meets its contract: the first step is made with a table, small or large. Assumes nothing.
+-- `pairing::first_into` meets its contract: the first step is made with a table of its own. Assumes nothing.
 use Rattle.classes.proofs.Layouts.{bounded}
 use Rattle.pairing.proofs.first_into.Goals as goal
 
-pub first_with-requires-else-g-le-FEW : goal.first_with-requires-else-g-le-FEW
-first_with-requires-else-g-le-FEW c = let p = c.requires in record { ready = (p.ready.0, p.ready.1, (bounded p.ready.0).places_high); pairs_len = (p.pairs_len.0, p.pairs_len.1) }
+pub with_table-requires-clause-fits : goal.with_table-requires-clause-fits
+with_table-requires-clause-fits c = (bounded c.requires.ready.0).places_high

@@ -1,35 +1,20 @@
 -- `picking::pick_row` meets its contract. Assumes nothing.
-use mathlib.Core.Path.{◌≡◌, refl}
-use Prim.Native.Nat.{◌-◌}
-use native.Mathlib.Omega.{arith}
-use borrow.Author.Rules.{rules}
-use Rattle.rows.proofs.Rows.{stored_none, stored_more}
+use Rattle.std.proofs.Common.{◌≡◌, ℕ, ◌+◌, get_or, length, length-take, length-drop, ap, arith}
+use Rattle.lists.proofs.Stores.{stored_more}
 use Rattle.picking.specs.Picking.{picked}
+use Rattle.rows.proofs.Rows.{stored_part}
 use Rattle.picking.proofs.pick_row.Goals as goal
-
-pub loop-t-init : goal.loop-t-init
-loop-t-init c = (search rules, stored_none _ _ _)
-
-pub overflow_cast-table : goal.overflow_cast-table
-overflow_cast-table c = omega (arith, c.requires.1 c.loop-t.t (omega arith))
-
-pub overflow_add-table-in-loop-t : goal.overflow_add-table-in-loop-t
-overflow_add-table-in-loop-t c = omega (arith, c.requires.1 c.loop-t.t (omega arith))
-
-pub offset_bounds-source-at : goal.offset_bounds-source-at
-offset_bounds-source-at c = omega (arith, c.requires.1 c.loop-t.t (omega arith))
-
-pub bounds-source-at : goal.bounds-source-at
-bounds-source-at c = c.requires.1 c.loop-t.t (omega arith)
 
 pub loop-t-preserved : goal.loop-t-preserved
 unfolding picked
 loop-t-preserved c =
     let l = c.loop-t in
-    (search rules, stored_more c.args.at l.t _ _ l.table _ l.invariant.1 (omega (arith, c.requires.2)) refl)
+    let a = c.args in
+    stored_more (λ k x. x ≡ picked a.looked.now a.row a.source.now a.at k) l.element-items l.t _ 0 (omega arith) l.invariant
+    (ap (λ p. get_or a.source.now (a.at + p) 0) c.from.ensures)
 
 pub returns : goal.returns
 returns c =
     let l = c.loop-t in
-    let e : l.t ≡ c.args.run = omega arith in
-    rw (← e) l.invariant.1
+    let n : length l.element-items ≡ c.args.run = omega (arith, length-take {A = ℕ}, length-drop {A = ℕ}) in
+    stored_part _ _ _ _ _ _ (omega arith) (omega arith) n (λ i h. l.invariant i (omega arith))

@@ -1,11 +1,7 @@
 -- `picking::pick_row` meets its contract. Assumes nothing.
-use Prim.Native.Nat.{◌-◌, ◌≤◌}
-use Rattle.rows.specs.Rows.{Stored}
+use Rattle.std.proofs.Common.{◌≡◌, ℕ, ◌<◌, get_or}
 use Rattle.picking.specs.Picking.{picked}
 use Rattle.picking.proofs.pick_row.Given as goal
 
 abbrev pub invariant-loop-t : goal.invariant-loop-t
-invariant-loop-t l = (l.t ≤ l.run) × Stored l.at l.t (picked l.looked l.row l.source l.at) l.initial.table l.table
-
-abbrev pub decreases-loop-t : goal.decreases-loop-t
-decreases-loop-t l = l.run - l.t
+invariant-loop-t l = (k : ℕ) → k < l.t → get_or l.element-items k 0 ≡ picked l.looked l.row l.source l.at k

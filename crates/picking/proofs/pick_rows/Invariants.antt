@@ -1,9 +1,5 @@
 -- `picking::pick_rows` meets its contract. Assumes nothing.
-use mathlib.Core.Path.{◌≡◌}
-use mathlib.Core.Bool.{Bool, false}
-use mathlib.Core.List.{List}
-use Prim.Native.Nat.{ℕ, ◌+◌, ◌-◌, ◌≤◌, ◌<◌}
-use lib.ListN.{length}
+use Rattle.std.proofs.Common.{◌≡◌, Bool, false, List, ℕ, ◌+◌, ◌<◌, length}
 use Rattle.lists.specs.Lists.{member}
 use Rattle.tables.specs.Tables.{NodeRows}
 use Rattle.picking.specs.Picking.{LookedUp, Pickable}
@@ -11,9 +7,5 @@ use Rattle.picking.proofs.pick_rows.Given as goal
 
 abbrev pub invariant-loop-j : goal.invariant-loop-j
 invariant-loop-j l =
-    (l.j ≤ l.k) × (length l.table ≡ length l.initial.table)
-    × ((m a : ℕ) (marked : List Bool) (picks : List ℕ) (last : ℕ) → Pickable l.n m a l.run l.list marked picks last l.source → LookedUp a l.run l.list picks last (length l.list) l.looked → l.i < m
-    → member l.i l.list ≡ false → NodeRows l.n (◌+◌ a) l.run l.list l.i l.j l.initial.table l.table)
-
-abbrev pub decreases-loop-j : goal.decreases-loop-j
-decreases-loop-j l = l.k - l.j
+    (m a : ℕ) (marked : List Bool) (picks : List ℕ) (last : ℕ) → Pickable l.n m a l.run l.list marked picks last l.source → LookedUp a l.run l.list picks last (length l.list) l.looked → l.i < m
+    → member l.i l.list ≡ false → NodeRows l.n (◌+◌ a) l.run l.list l.i l.j l.initial.table l.table

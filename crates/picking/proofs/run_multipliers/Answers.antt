@@ -3,10 +3,6 @@ use native.Mathlib.Omega.{arith}
 use lib.Pow.{pow_mono}
 use Rattle.picking.proofs.run_multipliers.Goals as goal
 
-pub pick-requires : goal.pick-requires
-pick-requires c =
-    (c.requires.0, c.requires.1, c.requires.2, c.requires.3, c.requires.4, c.requires.5, c.requires.6 c.if-few.true, c.requires.7, c.requires.8)
-
 pub multipliers-requires : goal.multipliers-requires
 multipliers-requires c =
     (c.requires.0, c.requires.1, c.requires.2, omega (arith, c.requires.3, pow_mono c.requires.0), c.requires.4, c.requires.5, c.requires.7, c.requires.8)

@@ -1,21 +1,19 @@
--- `plan::read_numbers` meets its contract: the numbers from number i on are still to be read, at the place. Assumes nothing.
+-- `plan::read_numbers` meets its contract: the numbers that were not reached are still to be read, at the place. Assumes nothing.
 use mathlib.Core.Path.{sym, ◌∙◌}
 use native.Mathlib.Omega.{arith}
-use borrow.Author.Rules.{rules}
-use lib.ListN.{length-set}
+use Rattle.plan.specs.Promises.{numbers_of}
 use Rattle.plan.proofs.Reading.{reading_none, reading_next, reading_bad, reading_end}
 use Rattle.plan.proofs.read_numbers.Goals as goal
 
-pub loop-i-init : goal.loop-i-init
-loop-i-init c = (search rules, reading_none _ _ _)
+pub loop-number-init : goal.loop-number-init
+loop-number-init c = reading_none _ _ _
 
-pub returns-in_default : goal.returns-in_default
-returns-in_default c = reading_bad c.loop-i.invariant.1 (omega arith) (sym c.read_number.ensures ∙ c.in_default.is)
+pub returns-in_err-read : goal.returns-in_err-read
+unfolding numbers_of
+returns-in_err-read c = rw c.from_residual.ensures (reading_bad c.loop-number.invariant (omega arith) (sym c.read_number.ensures ∙ c.in_err-read.was))
 
-pub loop-i-preserved : goal.loop-i-preserved
-loop-i-preserved c =
-    let l = c.loop-i in
-    (rw length-set (omega arith), reading_next l.invariant.1 (omega arith) (sym c.read_number.ensures ∙ c.in-Read.is))
+pub loop-number-preserved : goal.loop-number-preserved
+loop-number-preserved c = reading_next c.loop-number.invariant (omega arith) (sym c.read_number.ensures ∙ c.in_ok-read.was)
 
 pub returns : goal.returns
-returns c = reading_end c.loop-i.invariant.1 c.loop-i-test.false
+returns c = reading_end c.loop-number.invariant (omega arith)

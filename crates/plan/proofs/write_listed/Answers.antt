@@ -13,4 +13,4 @@ write_nodes-requires c =
 
 pub returns : goal.returns
 returns c =
-    puts_as (lists_read _ _ _ c.args.input.now _ c.in-At.next (read_good _ _ _ _ c.read_numbers.ensures _ c.in-At.is)) c.write_nodes.ensures
+    puts_as (lists_read _ _ _ c.args.input.now _ c.in-Some.next (read_good _ _ _ _ c.read_numbers.ensures _ c.in-Some.is)) c.write_nodes.ensures

@@ -17,10 +17,10 @@ pub judge_lists-requires : goal.judge_lists-requires
 judge_lists-requires c =
     (c.requires.0, omega (arith, c.requires, front_length _ c.args.nodes.now c.requires.1))
 
-pub returns-in-Refused : goal.returns-in-Refused
-returns-in-Refused c =
+pub returns-in-Err : goal.returns-in-Err
+returns-in-Err c =
     puts_as
-    (nodes_refused _ _ c.args.nodes.now _ _ (behind_dead c.args.nodes.now c.args.h) c.in-Refused.cause (ap answer_number (sym c.in-Refused.is) ∙ c.judge_lists.ensures))
+    (nodes_refused _ _ c.args.nodes.now _ _ (behind_dead c.args.nodes.now c.args.h) _ (ap answer_number (sym c.in-Err.is) ∙ c.judge_lists.ensures))
     c.write_refusal.ensures
 
 -- where nothing is refused

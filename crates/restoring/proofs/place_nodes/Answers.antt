@@ -12,7 +12,7 @@ use Rattle.restoring.proofs.place_nodes.Goals.{In-loop-j}
 
 pub loop-j-init : goal.loop-j-init
 loop-j-init c =
-    (search rules, refl, listed_none _ _ _ _ c.requires.0 _)
+    (search rules, listed_none _ _ _ _ c.requires.0 _)
 
 -- row j lies among the symbols handed in, and the row of listed node j among the nodes
 room : (c : In-loop-j) →
@@ -32,31 +32,27 @@ room c =
 
 pub overflow_mul-j : goal.overflow_mul-j
 overflow_mul-j c =
-    omega (arith, (room c).0)
+    omega (arith, (room (goal.at.overflow_mul-j c).In-loop-j).0)
 
-pub offset_bounds-list-j : goal.offset_bounds-list-j
-offset_bounds-list-j c =
-    search rules
-
-pub overflow_mul-list : goal.overflow_mul-list
-overflow_mul-list c =
-    omega (arith, (room (goal.at.overflow_mul-list c).In-loop-j).1)
+pub overflow_mul-node : goal.overflow_mul-node
+overflow_mul-node c =
+    omega (arith, (room (goal.at.overflow_mul-node c).In-loop-j).1)
 
 pub copy-requires : goal.copy-requires
 copy-requires c =
-    ((room (goal.at.copy-requires c).In-loop-j).0, omega (arith, (room (goal.at.copy-requires c).In-loop-j).1, c.loop-j.invariant.2.long))
+    ((room (goal.at.copy-requires c).In-loop-j).0, omega (arith, (room (goal.at.copy-requires c).In-loop-j).1, c.loop-j.invariant.1.long))
 
 pub loop-j-preserved : goal.loop-j-preserved
 loop-j-preserved c =
     let l = c.loop-j in
-    (search rules, refl, listed_more _ _ _ _ c.requires.0 l.j _ _ _ (omega arith) l.invariant.2 c.copy.ensures)
+    (search rules, listed_more _ _ _ _ c.requires.0 l.j _ _ _ (omega arith) l.invariant.1 c.copy.ensures)
 
 pub shape_of-nodes : goal.shape_of-nodes
 shape_of-nodes c =
-    c.loop-j.invariant.2.long
+    c.loop-j.invariant.1.long
 
 pub returns : goal.returns
 returns c =
     let l = c.loop-j in
     let e : l.j ≡ length c.args.list.now = omega arith in
-    rw (← e) l.invariant.2
+    rw (← e) l.invariant.1

@@ -6,7 +6,4 @@ use Rattle.restoring.specs.Steps.{ListedPlaced}
 use Rattle.restoring.proofs.place_nodes.Given as goal
 
 abbrev pub invariant-loop-j : goal.invariant-loop-j
-invariant-loop-j l = (l.j ≤ length l.list) × (l.j-end ≡ length l.list) × ListedPlaced l.each l.list l.symbols l.j l.initial.nodes l.nodes
-
-abbrev pub decreases-loop-j : goal.decreases-loop-j
-decreases-loop-j l = length l.list - l.j
+invariant-loop-j l = (l.j ≤ length l.list) × ListedPlaced l.each l.list l.symbols l.j l.initial.nodes l.nodes

@@ -1,5 +1,5 @@
 -- `restoring::restore_all` meets its contract. Assumes nothing.
-use mathlib.Core.Path.{refl, sym, ap, ◌∙◌}
+use mathlib.Core.Path.{sym, ap, ◌∙◌}
 use Prim.Native.Nat.{◌*◌}
 use native.Mathlib.Omega.{arith}
 use lib.ListN.{length}
@@ -39,8 +39,6 @@ shape_of-nodes c =
 pub returns : goal.returns
 returns c =
     let w = able (goal.at.returns c).Start in
-    let put = rw c.size.ensures at c.place_nodes.ensures in (
-      refl,
-      filled_restored _ _ _ w.given (shape_accepted _ w.shape).n_high w.long _ (put.long ∙ w.whole) (λ j p h l. put.there j p (omega (arith, w.given.count)) l) _
-          c.fill.ensures,
-    )
+    let put = rw c.size.ensures at c.place_nodes.ensures in
+    filled_restored _ _ _ w.given (shape_accepted _ w.shape).n_high w.long _ (put.long ∙ w.whole) (λ j p h l. put.there j p (omega (arith, w.given.count)) l) _
+    c.fill.ensures

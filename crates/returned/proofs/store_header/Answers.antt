@@ -1,6 +1,5 @@
 -- `returned::store_header` meets its contract: the six stores fill the buffer. Assumes nothing.
 use native.Mathlib.Omega.{arith}
-use borrow.Author.Rules.{rules}
 use lib.ListN.{length-set}
 use Rattle.card.specs.Cards.{plain_numbers, header_fields}
 use Rattle.returned.proofs.Cards.{six_set}

@@ -1,44 +1,29 @@
 -- `rows::add_products` meets its contract. Assumes nothing.
-use mathlib.Core.Path.{◌≡◌, ap₂}
-use Prim.Native.Nat.{◌+◌, ◌-◌, ◌*◌, ◌<◌}
-use native.Mathlib.Omega.{arith}
-use lib.ListN.{get_or}
+use Rattle.std.proofs.Common.{◌≡◌, ◌+◌, ◌*◌, ◌<◌, get_or, get_or-set_other, ◌∙◌, arith}
+use Rattle.lists.proofs.Stores.{stored_more}
 use Rattle.rows.specs.Rows.{added}
-use Rattle.rows.proofs.Rows.{stored_none, stored_front, stored_later}
-use borrow.Author.Rules.{rules}
 use Rattle.rows.proofs.add_products.Goals as goal
-use Rattle.rows.proofs.add_products.Goals.{After-wide-in-loop-i}
+use Rattle.rows.proofs.add_products.Goals.{After-from-in-loop-i}
 
-pub loop-i-init : goal.loop-i-init
-loop-i-init c = (search rules, stored_none _ _ _)
+in_run : (c : After-from-in-loop-i) → c.loop-i.i < c.args.run
+in_run c = omega arith
 
-product_fits : (c : After-wide-in-loop-i) →
+-- the sum that is stored
+one_more : (c : After-from-in-loop-i) →
     let l = c.loop-i in
-    get_or c.args.sums.now l.i 0 + c.wide.result * c.wide-in-loop-i.result < 4294967296
+    let a = c.args in
+    get_or l.sum-items l.i 0 + c.from.result * c.from-in-loop-i.result ≡ added a.factors.now a.f a.symbols.now a.s a.sums.now l.i
 unfolding added
-product_fits c =
-    let l = c.loop-i in
-    rw (c.wide.ensures, c.wide-in-loop-i.ensures) (c.requires.3 l.i (omega arith))
+one_more c = let there = c.loop-i.invariant.left c.loop-i.i (omega arith) (in_run c) in cc (there, c.from.ensures, c.from-in-loop-i.ensures)
 
-pub overflow_mul-sums : goal.overflow_mul-sums
-overflow_mul-sums c =
-    omega (arith, product_fits c)
-
-pub overflow_add-sums : goal.overflow_add-sums
-overflow_add-sums c =
-    omega (arith, product_fits c, stored_later _ _ _ _ c.loop-i.invariant.1 c.loop-i.i (omega arith))
+pub overflow_add-sum : goal.overflow_add-sum
+overflow_add-sum c = let w = (goal.at.overflow_add-sum c).After-from-in-loop-i in omega (arith, one_more w, c.requires.3 c.loop-i.i (in_run w))
 
 pub loop-i-preserved : goal.loop-i-preserved
-unfolding added
 loop-i-preserved c =
-    let l = c.loop-i in (
-      search rules,
-      stored_front l.i _ _ l.sums _ l.invariant.1 (omega arith)
-          (ap₂ ◌+◌ (stored_later _ _ _ _ l.invariant.1 l.i (omega arith)) (ap₂ ◌*◌ c.wide.ensures c.wide-in-loop-i.ensures)),
-    )
-
-pub returns : goal.returns
-returns c =
     let l = c.loop-i in
-    let e : l.i ≡ c.args.run = omega arith in
-    rw (← e) l.invariant.1
+    let a = c.args in
+    record {
+      passed = stored_more (λ k x. x ≡ added a.factors.now a.f a.symbols.now a.s a.sums.now k) l.sum-items l.i _ 0 (omega arith) l.invariant.passed (one_more (goal.at.loop-i-preserved c).After-from-in-loop-i);
+      left = λ k h r. get_or-set_other l.sum-items l.i k _ 0 (λ e. omega arith) ∙ l.invariant.left k (omega arith) r;
+    }

@@ -1,10 +1,10 @@
 -- `rows::add_products` meets its contract. Assumes nothing.
-use Prim.Native.Nat.{◌-◌, ◌≤◌}
-use Rattle.rows.specs.Rows.{Stored, added}
+use Rattle.std.proofs.Common.{◌≡◌, ℕ, ◌<◌, ◌≤◌, get_or}
+use Rattle.rows.specs.Rows.{added}
 use Rattle.rows.proofs.add_products.Given as goal
 
 abbrev pub invariant-loop-i : goal.invariant-loop-i
-invariant-loop-i l = (l.i ≤ l.run) × Stored 0 l.i (added l.factors l.f l.symbols l.s l.initial.sums) l.initial.sums l.sums
-
-abbrev pub decreases-loop-i : goal.decreases-loop-i
-decreases-loop-i l = l.run - l.i
+invariant-loop-i l = record {
+  passed : (k : ℕ) → k < l.i → get_or l.sum-items k 0 ≡ added l.factors l.f l.symbols l.s l.fn.sums k;
+  left : (k : ℕ) → l.i ≤ k → k < l.run → get_or l.sum-items k 0 ≡ get_or l.fn.sums k 0;
+}

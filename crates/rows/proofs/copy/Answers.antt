@@ -1,26 +1,12 @@
 -- `rows::copy` meets its contract. Assumes nothing.
-use mathlib.Core.Path.{◌≡◌, refl}
-use Prim.Native.Nat.{◌-◌}
-use native.Mathlib.Omega.{arith}
+use Rattle.std.proofs.Common.{◌≡◌, length, length-take, length-drop, ℕ, arith, rules}
+use Rattle.std.proofs.lemmas.List.{places}
 use Rattle.rows.specs.Rows.{copied}
-use Rattle.rows.proofs.Rows.{stored_none, stored_more}
-use borrow.Author.Rules.{rules}
+use Rattle.rows.proofs.Rows.{stored_part}
 use Rattle.rows.proofs.copy.Goals as goal
 
-pub loop-i-init : goal.loop-i-init
-loop-i-init c = (search rules, stored_none _ _ _)
-
-pub loop-i-preserved : goal.loop-i-preserved
-unfolding copied
-loop-i-preserved c =
-    let l = c.loop-i in
-    (search rules, stored_more c.args.at l.i _ _ l.out _ l.invariant.1 (omega arith) refl)
-
-pub shape_of-out : goal.shape_of-out
-shape_of-out c = c.loop-i.invariant.1.long
-
 pub returns : goal.returns
+unfolding copied
 returns c =
-    let l = c.loop-i in
-    let e : l.i ≡ c.args.count = omega arith in
-    rw (← e) l.invariant.1
+    let n : length c.copy_from_slice.new.self ≡ c.args.count = omega (arith, length-take {A = ℕ}, length-drop {A = ℕ}) in
+    stored_part _ _ _ _ _ _ (omega arith) (omega arith) n (λ i h. search (rules, places))

@@ -13,15 +13,6 @@ use Rattle.solving.proofs.slot.Goals.{Start}
 few : (c : Start) → c.args.v * (c.args.h - 1) ≤ most_nodes * most_nodes
 few c = mul-le-mul {n₂ = most_nodes} {m₂ = most_nodes} (omega arith) (omega arith)
 
-pub overflow_mul-result : goal.overflow_mul-result
-overflow_mul-result c = omega (arith, few (goal.at.overflow_mul-result c).Start)
-
-pub among-requires : goal.among-requires
-among-requires c = λ e. c.requires.2 (sym e)
-
-pub among-requires-else-all : goal.among-requires-else-all
-among-requires-else-all c = c.requires.2
-
 pub overflow_add-result : goal.overflow_add-result
 overflow_add-result c =
     let p = c.requires in

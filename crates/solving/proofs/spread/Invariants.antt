@@ -1,12 +1,9 @@
 -- `solving::spread` meets its contract: no two places are one. Assumes nothing.
-use Prim.Native.Nat.{◌-◌, ◌≤◌}
+use lib.ListN.{length}
 use Rattle.code.specs.Code.{narrow}
 use Rattle.rows.specs.Rows.{remainder}
 use Rattle.solving.specs.Solving.{Spread}
 use Rattle.solving.proofs.spread.Given as goal
 
-abbrev pub invariant-loop-t : goal.invariant-loop-t
-invariant-loop-t l = (l.t ≤ l.run) × Spread l.t l.base l.at (remainder narrow.modulus l.sums) l.initial.out l.out
-
-abbrev pub decreases-loop-t : goal.decreases-loop-t
-decreases-loop-t l = l.run - l.t
+abbrev pub invariant-loop-sum : goal.invariant-loop-sum
+invariant-loop-sum l = Spread (length l.yielded) l.base l.at (remainder narrow.modulus l.fn.sums) l.initial.out l.out

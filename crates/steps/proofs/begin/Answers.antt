@@ -1,5 +1,5 @@
 -- `steps::begin` meets its contract: by its class. Assumes nothing.
-use mathlib.Core.Path.{◌≡◌, refl, sym, ap, ap₂, ◌∙◌}
+use mathlib.Core.Path.{◌≡◌, sym, ap, ap₂, ◌∙◌}
 use Prim.Native.Nat.{◌-◌, ◌*◌}
 use native.Mathlib.Omega.{arith}
 use Rattle.classes.specs.Classes.{rank_class, turning_rank}
@@ -8,9 +8,6 @@ use Rattle.classes.proofs.Ranks.{Rank, turning_rank_lem, rank_class_le}
 use Rattle.steps.proofs.Beginning.{begin_low}
 use Rattle.steps.proofs.begin.Goals as goal
 use Rattle.steps.proofs.begin.Goals.{Else-class-eq0}
-
-pub returns-then-class-eq0 : goal.returns-then-class-eq0
-returns-then-class-eq0 c = record { own = λ z. (refl, refl); turned = λ d. absurd (d (sym c.rank_class-class.ensures ∙ c.if-class-eq0.true)) }
 
 -- the rank that turns its class
 turned : (c : Else-class-eq0) →
@@ -27,11 +24,16 @@ overflow_mul-turning c =
     let R = c.requires.ready.0 in
     omega (arith, (turned c).0, (turned c).1.below, (bounded R).dead_high)
 
-pub cross_from-requires : goal.cross_from-requires
-cross_from-requires c =
+pub cross_from-requires-clause-ready : goal.cross_from-requires-clause-ready
+cross_from-requires-clause-ready c =
     let p = c.requires.ready in
-    let t = turned (goal.at.cross_from-requires c).Else-class-eq0 in
-    let z = c.if-class-eq0.false in record { ready = (p.0, p.1, rw t.0 t.1.below, λ e. z (c.rank_class-class.ensures ∙ ap (rank_class c.args.dead.now) (sym e ∙ t.0) ∙ t.1.class), omega arith, p.2, rw (t.0, t.1.class) p.3); received_len = c.requires.received_len; low = (c.requires.low.0, rw t.0 (begin_low (ready_dead p.0) _ (λ e. z (c.rank_class-class.ensures ∙ e)) _ _ c.requires.low.1)) }
+    let t = turned (goal.at.cross_from-requires-clause-ready c).Else-class-eq0 in
+    (p.0, p.1, rw t.0 t.1.below, λ e. c.if-class-eq0.false (c.rank_class-class.ensures ∙ ap (rank_class c.args.dead.now) (sym e ∙ t.0) ∙ t.1.class), omega arith, p.2, rw (t.0, t.1.class) p.3)
+
+pub cross_from-requires-clause-low : goal.cross_from-requires-clause-low
+cross_from-requires-clause-low c =
+    let t = turned (goal.at.cross_from-requires-clause-low c).Else-class-eq0 in
+    (c.requires.low.0, rw t.0 (begin_low (ready_dead c.requires.ready.0) _ (λ e. c.if-class-eq0.false (c.rank_class-class.ensures ∙ e)) _ _ c.requires.low.1))
 
 pub returns : goal.returns
 returns c =

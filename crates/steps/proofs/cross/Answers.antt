@@ -3,39 +3,31 @@ use mathlib.Core.Path.{◌≡◌, refl, sym, ap, ◌∙◌}
 use Prim.Native.Nat.{◌+◌, ◌-◌, ◌*◌, ◌<◌, ◌^◌}
 use native.Mathlib.Nat.{mul-le-mul}
 use native.Mathlib.Omega.{arith}
-use lib.ListN.{length, take, drop, length-take, length-drop}
+use lib.ListN.{length, take, drop}
 use Rattle.lists.specs.Lists.{piece}
 use Rattle.rows.proofs.Rows.{low_part}
 use Rattle.code.specs.Code.{narrow}
 use Rattle.classes.proofs.Layouts.{bounded}
+use Rattle.classes.proofs.Members.{class_members}
 use Rattle.lists.proofs.Parts.{piece_part}
 use Rattle.shape.specs.Shape.{most_nodes}
-use Rattle.steps.proofs.Pieces.{pieces_none, pieces_more}
-use Rattle.steps.proofs.Turned.{BatchCrossed, turn_high, Tabled, tabled, every, Room, room, blocks_are, apart_by, low_by, crossed_done}
+use Rattle.steps.proofs.Pieces.{pieces_more}
+use Rattle.steps.proofs.Turned.{BatchCrossed, Tabled, tabled, every, Room, room, blocks_are, listed, block_long, sums_long, apart_by, low_by, crossed_done}
 use borrow.Author.Rules.{rules}
 use Rattle.steps.proofs.cross.Goals as goal
 use Rattle.steps.proofs.cross.Goals.{At-loop-b, In-loop-b}
 
 -- the rank's table
-known : (c : At-loop-b) → let a = c.args in Tabled a.dead.now a.g a.u c.args.table.now c.class_size-count.result c.turn_of-turn.result
+known : (c : At-loop-b) → let a = c.args in Tabled a.dead.now a.g a.u c.args.table.now c.args.g.members c.turn_of-turn.result
 known c =
-    tabled c.requires.ready.0 c.args.u _ _ _ c.args.table.now refl c.requires.ready.3 c.requires.ready.2 c.class_size-count.ensures c.turn_of-turn.ensures
+    tabled c.requires.ready.0 c.args.u _ _ _ c.args.table.now refl c.requires.ready.3 c.requires.ready.2 (class_members c.requires.ready.0) c.turn_of-turn.ensures
 
 -- the batch's parts are within their buffers
-part : (c : In-loop-b) → let a = c.args in Room a.dead.now a.g c.loop-b.b c.class_size-count.result
+part : (c : In-loop-b) → let a = c.args in Room a.dead.now a.g c.loop-b.b c.args.g.members
 part c = room c.requires.ready.0 _ c.requires.ready.1 _ _ _ (known (goal.at.In-loop-b c).At-loop-b) c.loop-b.b (omega arith)
-
-pub overflow_mul-near : goal.overflow_mul-near
-overflow_mul-near c = omega (arith, turn_high c.requires.ready.0 c.args.u c.turn_of-turn.result (1 - c.args.which) c.requires.ready.1 c.turn_of-turn.ensures (omega arith))
-
-pub overflow_mul-far : goal.overflow_mul-far
-overflow_mul-far c = omega (arith, turn_high c.requires.ready.0 c.args.u c.turn_of-turn.result c.args.which c.requires.ready.1 c.turn_of-turn.ensures c.requires.ready.4)
 
 pub overflow_mul-block : goal.overflow_mul-block
 overflow_mul-block c = let b = bounded c.requires.ready.0 in omega (arith, mul-le-mul {n₂ = most_nodes} {m₂ = 2 ^ most_nodes} b.batch_high b.places_high)
-
-pub loop-b-init : goal.loop-b-init
-loop-b-init c = (search rules, pieces_none _ _ _ _)
 
 pub overflow_mul-at : goal.overflow_mul-at
 overflow_mul-at c = omega (arith, part c)
@@ -49,9 +41,6 @@ overflow_mul-from c = omega (arith, part c)
 pub overflow_add-to : goal.overflow_add-to
 overflow_add-to c = omega (arith, part c)
 
-pub slice_bounds-cross_batch-end : goal.slice_bounds-cross_batch-end
-slice_bounds-cross_batch-end c = let k = known (goal.at.slice_bounds-cross_batch-end c).At-loop-b in k.count_is ∙ ap length (sym k.front)
-
 pub offset_bounds-sums-from : goal.offset_bounds-sums-from
 offset_bounds-sums-from c = omega (arith, part (goal.at.offset_bounds-sums-from c).In-loop-b)
 
@@ -64,25 +53,27 @@ offset_bounds-symbols-at c = omega (arith, part (goal.at.offset_bounds-symbols-a
 pub slice_bounds-cross_batch-end-in-loop-b-2 : goal.slice_bounds-cross_batch-end-in-loop-b-2
 slice_bounds-cross_batch-end-in-loop-b-2 c = let r = part (goal.at.slice_bounds-cross_batch-end-in-loop-b-2 c).In-loop-b in omega (arith, r.block, c.requires.ready.6, c.loop-b.invariant.1.long)
 
-pub cross_batch-requires : goal.cross_batch-requires
-cross_batch-requires c =
-    let i = (goal.at.cross_batch-requires c).In-loop-b in
+pub cross_batch-requires-clause-apart : goal.cross_batch-requires-clause-apart
+cross_batch-requires-clause-apart c =
+    let i = (goal.at.cross_batch-requires-clause-apart c).In-loop-b in
     let l = i.loop-b in
-    let k = known (goal.at.cross_batch-requires c).At-loop-b in
+    let k = known (goal.at.cross_batch-requires-clause-apart c).At-loop-b in
+    let R = i.requires.ready.0 in
+    let u = i.requires.ready.1 in
+    let h : l.b < i.args.g.batches = omega arith in
+    (every R k, rw (block_long R _ u _ _ _ k l.b h l.symbols (l.invariant.1.long ∙ i.requires.ready.6)) (apart_by R _ u _ _ _ k l.b h i.args.which i.requires.ready.4), sums_long R _ u _ _ _ k l.b h _ i.requires.ready.5)
+
+pub cross_batch-requires-clause-low : goal.cross_batch-requires-clause-low
+cross_batch-requires-clause-low c =
+    let i = (goal.at.cross_batch-requires-clause-low c).In-loop-b in
+    let l = i.loop-b in
+    let k = known (goal.at.cross_batch-requires-clause-low c).At-loop-b in
     let block = i.args.g.batch * i.args.g.places in
-    let count = i.class_size-count.result in
-    let members = take count i.args.table.now in
-    let turn = i.turn_of-turn.result in
-    let r = part i in
-    let n : length members ≡ count = ap length k.front ∙ sym k.count_is in
-    let long : length (take (l.b * block + block - l.b * block) (drop (l.b * block) l.symbols)) ≡ block = simp (length-take, length-drop) (omega (arith, r.block, i.requires.ready.6, l.invariant.1.long)) in
-    let h : l.b < i.args.g.batches = omega arith in record {
-      apart = (every i.requires.ready.0 k, rw long (apart_by i.requires.ready.0 _ i.requires.ready.1 _ _ _ k l.b h i.args.which i.requires.ready.4), rw n (simp (length-take, length-drop) (omega (arith, r.sums, i.requires.ready.5))));
-      low = (
-        low_part _ (l.b * count + count - l.b * count) (l.b * count) _ i.requires.low.0,
-        rw (piece_part block l.b l.symbols ∙ l.invariant.1.left l.b (omega arith) h) (low_by i.requires.ready.0 _ i.requires.ready.1 _ _ _ k _ l.b h (1 - i.args.which) (omega arith) _ i.requires.low.1),
-      );
-    }
+    let count = i.args.g.members in
+    let h : l.b < i.args.g.batches = omega arith in (
+      low_part _ (l.b * count + count - l.b * count) (l.b * count) _ i.requires.low.0,
+      rw (piece_part block l.b l.symbols ∙ l.invariant.1.left l.b (omega arith) h) (low_by i.requires.ready.0 _ i.requires.ready.1 _ _ _ k _ l.b h (1 - i.args.which) (omega arith) _ i.requires.low.1),
+    )
 
 pub loop-b-preserved : goal.loop-b-preserved
 loop-b-preserved c =
@@ -90,12 +81,13 @@ loop-b-preserved c =
     let l = i.loop-b in
     let k = known (goal.at.loop-b-preserved c).At-loop-b in
     let block = i.args.g.batch * i.args.g.places in
-    let count = i.class_size-count.result in
+    let count = i.args.g.members in
     let members = take count i.args.table.now in
     let turn = i.turn_of-turn.result in
-    let r = part i in
-    let n : length members ≡ count = ap length k.front ∙ sym k.count_is in
-    let long : length (take (l.b * block + block - l.b * block) (drop (l.b * block) l.symbols)) ≡ block = simp (length-take, length-drop) (omega (arith, r.block, i.requires.ready.6, l.invariant.1.long)) in
+    let R = i.requires.ready.0 in
+    let u = i.requires.ready.1 in
+    let n = listed R _ u _ _ _ k in
+    let long = block_long R _ u _ _ _ k l.b (omega arith) l.symbols (l.invariant.1.long ∙ i.requires.ready.6) in
     let m = c.cross_batch in
     let e : take (l.b * count + count - l.b * count) (drop (l.b * count) i.args.sums.now) ≡ piece (length members) l.b i.args.sums.now =
     piece_part count l.b i.args.sums.now ∙ ap (λ z. piece z l.b i.args.sums.now) (sym n) in (
@@ -103,9 +95,6 @@ loop-b-preserved c =
       pieces_more i.args.g.batches block (BatchCrossed narrow members (turn * (1 - i.args.which)) (turn * i.args.which) i.args.sums.now) i.args.symbols.now l.b l.symbols _
           (i.requires.ready.6 ∙ sym (blocks_are i.requires.ready.0 _ i.requires.ready.1 _ _ _ k)) (omega arith) l.invariant.1 (rw (e, piece_part block l.b l.symbols) at m.ensures) (m.auto.symbols ∙ long),
     )
-
-pub shape_of-symbols : goal.shape_of-symbols
-shape_of-symbols c = c.loop-b.invariant.1.long
 
 pub returns : goal.returns
 returns c =

@@ -3,10 +3,9 @@ use mathlib.Core.Path.{◌≡◌, ap, ap₂, ◌∙◌}
 use Prim.Native.Nat.{◌+◌, ◌-◌, ◌*◌, ◌≤◌, ◌<◌}
 use native.Mathlib.Nat.{mul-le-mul_right, suc-mul}
 use native.Mathlib.Omega.{arith}
-use lib.ListN.{length, get_or, drop, length-take, length-drop}
+use lib.ListN.{length, get_or, drop}
 use lib.Seq.{get_or-take, get_or-drop}
 use Rattle.lists.proofs.Buffers.{part_of}
-use Rattle.rows.proofs.Rows.{low_part}
 use Rattle.code.specs.Code.{narrow}
 use Rattle.classes.specs.Classes.{message_size}
 use Rattle.steps.specs.Storing.{sent_by}
@@ -38,13 +37,6 @@ offset_bounds-received-at c = omega (arith, (within c).0)
 
 pub slice_bounds-cross-end : goal.slice_bounds-cross-end
 slice_bounds-cross-end c = (within c).0
-
-pub cross-requires : goal.cross-requires
-cross-requires c =
-    let p = c.requires.ready in
-    let w = within (goal.at.cross-requires c).After-among in
-    let at = c.among.result * c.args.g.share in
-    record { ready = (p.0, p.2, p.5, p.6, p.4, simp (length-take, length-drop) (omega (arith, w.0, w.1)), c.requires.received_len.1); low = (low_part _ (at + c.args.g.share - at) at _ c.requires.low.0, c.requires.low.1) }
 
 pub returns : goal.returns
 unfolding sent_by

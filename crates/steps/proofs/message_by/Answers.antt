@@ -1,36 +1,34 @@
 -- `steps::message_by` meets its contract: batch by batch, by the members of the rank's class. Assumes nothing.
 use mathlib.Core.Path.{◌≡◌, refl, sym, ap, ◌∙◌}
-use Prim.Native.Nat.{◌+◌, ◌-◌, ◌*◌, ◌^◌}
+use Prim.Native.Nat.{◌*◌, ◌<◌, ◌^◌}
 use native.Mathlib.Nat.{mul-le-mul}
 use native.Mathlib.Omega.{arith}
-use lib.ListN.{length, take, drop, length-take, length-drop}
+use lib.ListN.{length, take}
 use Rattle.lists.specs.Lists.{tabulate}
 use Rattle.lists.proofs.Tables.{tabulate_length}
 use Rattle.batches.specs.Batches.{added_in}
 use Rattle.code.specs.Code.{narrow}
 use Rattle.classes.proofs.Layouts.{bounded}
+use Rattle.classes.proofs.Members.{class_members}
 use Rattle.lists.proofs.Parts.{piece_part}
 use Rattle.shape.specs.Shape.{most_nodes}
-use Rattle.steps.proofs.Pieces.{pieces_none, pieces_more}
-use Rattle.steps.proofs.Turned.{BatchAdded, Tabled, tabled, every, Room, room, sums_are, apart_other, message_done}
+use Rattle.steps.proofs.Pieces.{pieces_more}
+use Rattle.steps.proofs.Turned.{BatchAdded, Tabled, tabled, every, Room, room, sums_are, listed, block_long, sums_long, apart_other, message_done}
 use borrow.Author.Rules.{rules}
 use Rattle.steps.proofs.message_by.Goals as goal
 use Rattle.steps.proofs.message_by.Goals.{At-loop-b, In-loop-b}
 
 -- the rank's table
-known : (c : At-loop-b) → let a = c.args in Tabled a.dead.now a.g a.u a.table.now c.class_size-count.result c.turn_of-turn.result
+known : (c : At-loop-b) → let a = c.args in Tabled a.dead.now a.g a.u a.table.now c.args.g.members c.turn_of-turn.result
 known c =
-    tabled c.requires.0 c.args.u _ _ _ c.args.table.now refl c.requires.3 c.requires.2 c.class_size-count.ensures c.turn_of-turn.ensures
+    tabled c.requires.0 c.args.u _ _ _ c.args.table.now refl c.requires.3 c.requires.2 (class_members c.requires.0) c.turn_of-turn.ensures
 
 -- the batch's parts are within their buffers
-part : (c : In-loop-b) → let a = c.args in Room a.dead.now a.g c.loop-b.b c.class_size-count.result
+part : (c : In-loop-b) → let a = c.args in Room a.dead.now a.g c.loop-b.b c.args.g.members
 part c = room c.requires.0 _ c.requires.1 _ _ _ (known (goal.at.In-loop-b c).At-loop-b) c.loop-b.b (omega arith)
 
 pub overflow_mul-block : goal.overflow_mul-block
 overflow_mul-block c = let b = bounded c.requires.0 in omega (arith, mul-le-mul {n₂ = most_nodes} {m₂ = 2 ^ most_nodes} b.batch_high b.places_high)
-
-pub loop-b-init : goal.loop-b-init
-loop-b-init c = (search rules, pieces_none _ _ _ _)
 
 pub overflow_mul-at : goal.overflow_mul-at
 overflow_mul-at c = omega (arith, part c)
@@ -43,9 +41,6 @@ overflow_mul-from c = omega (arith, part c)
 
 pub overflow_add-to : goal.overflow_add-to
 overflow_add-to c = omega (arith, part c)
-
-pub slice_bounds-add_batch-end : goal.slice_bounds-add_batch-end
-slice_bounds-add_batch-end c = let k = known (goal.at.slice_bounds-add_batch-end c).At-loop-b in k.count_is ∙ ap length (sym k.front)
 
 pub offset_bounds-symbols-at : goal.offset_bounds-symbols-at
 offset_bounds-symbols-at c = omega (arith, part (goal.at.offset_bounds-symbols-at c).In-loop-b)
@@ -63,28 +58,26 @@ pub add_batch-requires : goal.add_batch-requires
 add_batch-requires c =
     let i = (goal.at.add_batch-requires c).In-loop-b in
     let k = known (goal.at.add_batch-requires c).At-loop-b in
-    let r = part i in
-    let n : length (take i.class_size-count.result c.args.table.now) ≡ i.class_size-count.result = ap length k.front ∙ sym k.count_is in
-    let e : length (take (i.loop-b.b * (c.args.g.batch * c.args.g.places) + c.args.g.batch * c.args.g.places - i.loop-b.b * (c.args.g.batch * c.args.g.places)) (drop (i.loop-b.b * (c.args.g.batch * c.args.g.places)) c.args.symbols.now)) ≡ c.args.g.batch * c.args.g.places = simp (length-take, length-drop) (omega (arith, r.block, c.requires.4)) in
-    (every c.requires.0 k, rw e (apart_other c.requires.0 _ c.requires.1 _ _ _ k i.loop-b.b (omega arith)), rw n (simp (length-take, length-drop) (omega (arith, r.sums, c.requires.5, i.loop-b.invariant.1.long))))
+    let l = i.loop-b in
+    let R = c.requires.0 in
+    let u = c.requires.1 in
+    let h : l.b < c.args.g.batches = omega arith in
+    (every R k, rw (block_long R _ u _ _ _ k l.b h _ c.requires.4) (apart_other R _ u _ _ _ k l.b h), sums_long R _ u _ _ _ k l.b h _ (l.invariant.1.long ∙ c.requires.5))
 
 pub loop-b-preserved : goal.loop-b-preserved
 loop-b-preserved c =
     let l = c.loop-b in
     let k = known (goal.at.loop-b-preserved c).At-loop-b in
     let block = c.args.g.batch * c.args.g.places in
-    let count = c.class_size-count.result in
+    let count = c.args.g.members in
     let members = take count c.args.table.now in
     let turn = c.turn_of-turn.result in
     let m = c.add_batch in
     let q = m.ensures ∙ ap (λ z. tabulate (length members) (added_in narrow members turn z)) (piece_part block l.b c.args.symbols.now) in (
       search rules,
       pieces_more c.args.g.batches count (BatchAdded narrow members turn block c.args.symbols.now) c.args.message.now l.b l.message _
-          (c.requires.5 ∙ sym (sums_are c.requires.0 _ c.requires.1 _ _ _ k)) (omega arith) l.invariant.1 q (ap length q ∙ tabulate_length (length members) _ ∙ ap length k.front ∙ sym k.count_is),
+          (c.requires.5 ∙ sym (sums_are c.requires.0 _ c.requires.1 _ _ _ k)) (omega arith) l.invariant.1 q (ap length q ∙ tabulate_length (length members) _ ∙ listed c.requires.0 _ c.requires.1 _ _ _ k),
     )
-
-pub shape_of-message : goal.shape_of-message
-shape_of-message c = c.loop-b.invariant.1.long
 
 pub returns : goal.returns
 returns c =

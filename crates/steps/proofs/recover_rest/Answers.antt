@@ -11,7 +11,3 @@ pub returns-then-dead-eq1 : goal.returns-then-dead-eq1
 returns-then-dead-eq1 c =
     let e : length c.args.dead.now ≡ 1 = omega arith in
     record { whole = λ pairs G. alone narrow (ready_dead c.requires.ready.0) _ c.requires.ready.1 pairs _ e _ G }
-
-pub recover_with-requires : goal.recover_with-requires
-recover_with-requires c =
-    let p = c.requires in record { ready = (p.ready.0, p.ready.1, p.ready.2, rw c.rank_class-held.ensures p.ready.3); received_len = p.received_len; low = p.low }

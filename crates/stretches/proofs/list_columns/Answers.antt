@@ -1,6 +1,5 @@
 -- `stretches::list_columns` meets its contract. Assumes nothing.
 use mathlib.Core.Path.{◌≡◌, sym, ◌∙◌}
-use Prim.Native.Nat.{◌-◌}
 use native.Mathlib.Omega.{arith}
 use Rattle.shape.specs.Shape.{size}
 use Rattle.stretches.proofs.Judging.{shape_small, bounded_weak, wanted_bounded}

@@ -1,23 +1,48 @@
 -- `stretches::next_cut` meets its contract. Assumes nothing.
-use Rattle.stretches.specs.Stretches.{stretch_start, stretch_length, stretch_count}
-use native.Mathlib.Omega.{arith}
-use Prim.Native.Nat.{◌-◌}
-use Rattle.stretches.proofs.Runs.{uncut_none, uncut_more, uncut_all}
-use borrow.Author.Rules.{rules}
+use Rattle.std.proofs.Common.{◌≡◌, ◌<◌, length, get_or, arith}
+use Rattle.stretches.specs.Stretches.{stretch_count, stretch_start, stretch_length}
+use Rattle.stretches.proofs.Runs.{UncutUpto, uncut_none, uncut_more, uncut_all}
+use Rattle.std.specs.Slice.Iter.{chunks_exact_rest, chunks_exact_size}
+use Rattle.stretches.proofs.Pairs.{pair_turn, pair_end, pairs_more}
 use Rattle.stretches.proofs.next_cut.Goals as goal
+use Rattle.stretches.proofs.next_cut.Goals.{In-Some, In-None}
 
-pub loop-m-init : goal.loop-m-init
-loop-m-init c = (search rules, uncut_none _ _ _ c.requires.1)
+-- the pair is the stretch of its number
+turn : (c : In-Some) →
+    let st = c.args.stretches.now in
+    let m = length c.loop-pair.yielded in
+    (m < stretch_count st) × (stretch_start st m ≡ get_or c.in-Some.pair.now 0 0) × (stretch_length st m ≡ get_or c.in-Some.pair.now 1 0)
+turn c =
+    let l = c.loop-pair in
+    let s = c.into_iter-pair-iterator.result in
+    let all : chunks_exact_rest s ≡ c.args.stretches.now = cc in
+    let two : chunks_exact_size s ≡ 2 = cc in
+    pair_turn _ s l.pair-iterator c.next.new.self _ l.yielded all two l.yielded_by _ c.in-Some.is c.next.ensures.steps
 
-pub overflow_add-stop-in-loop-m : goal.overflow_add-stop-in-loop-m
-unfolding stretch_start stretch_length stretch_count
-overflow_add-stop-in-loop-m c = omega (arith, c.requires.0.ends _ c.loop-m-test.true)
+-- at the end all have come
+all_come : (c : In-None) → length c.loop-pair.yielded ≡ stretch_count c.args.stretches.now
+all_come c =
+    let l = c.loop-pair in
+    let s = c.into_iter-pair-iterator.result in
+    let all : chunks_exact_rest s ≡ c.args.stretches.now = cc in
+    let two : chunks_exact_size s ≡ 2 = cc in
+    pair_end _ s l.pair-iterator c.next.new.self _ l.yielded all two l.yielded_by c.in-None.is c.next.ensures.steps
 
-pub loop-m-preserved : goal.loop-m-preserved
-unfolding stretch_start stretch_length stretch_count
-loop-m-preserved c = let l = c.loop-m in
-    (search rules, uncut_more _ _ _ _ l.m _ _ l.invariant.1 c.nearer.ensures c.nearer-end.ensures)
+pub loop-pair-init : goal.loop-pair-init
+loop-pair-init c = uncut_none _ _ _ c.requires.1
+
+pub overflow_add-stop : goal.overflow_add-stop
+overflow_add-stop c =
+    let t = turn (goal.at.overflow_add-stop c).In-Some in
+    omega (arith, t, c.requires.0.ends _ t.0)
+
+pub loop-pair-preserved : goal.loop-pair-preserved
+loop-pair-preserved c =
+    let l = c.loop-pair in
+    let a = c.args in
+    let t = turn (goal.at.loop-pair-preserved c).In-Some in
+    pairs_more (UncutUpto a.stretches.now a.modulus a.at c.nearer-end.result) l.yielded _
+    (uncut_more a.stretches.now a.modulus a.at l.end (length l.yielded) c.nearer.result c.nearer-end.result l.invariant (rw (t.1, t.2) c.nearer.ensures) (rw t.1 c.nearer-end.ensures))
 
 pub returns : goal.returns
-unfolding stretch_start stretch_length stretch_count
-returns c = uncut_all _ _ _ _ c.loop-m.m (omega (arith, c.loop-m.invariant.0, c.loop-m-test.false)) c.loop-m.invariant.1
+returns c = uncut_all _ _ _ _ _ (all_come c) c.loop-pair.invariant

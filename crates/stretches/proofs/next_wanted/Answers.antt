@@ -1,35 +1,65 @@
 -- `stretches::next_wanted` meets its contract. Assumes nothing.
-use Rattle.stretches.specs.Stretches.{stretch_start, stretch_length, stretch_count}
-use native.Mathlib.Omega.{arith}
+use Rattle.std.proofs.Common.{◌≡◌, ◌<◌, length, get_or, arith}
 use Rattle.lists.proofs.Tests.{either}
-use Prim.Native.Nat.{◌-◌}
-use Rattle.stretches.proofs.Runs.{next_none, next_skip, next_more, next_all}
-use borrow.Author.Rules.{rules}
+use Rattle.stretches.specs.Stretches.{stretch_count, stretch_start, stretch_length}
+use Rattle.stretches.proofs.Runs.{NextUpto, next_none, next_skip, next_more, next_all}
+use Rattle.std.specs.Slice.Iter.{chunks_exact_rest, chunks_exact_size}
+use Rattle.stretches.proofs.Pairs.{pair_turn, pair_end, pairs_more}
 use Rattle.stretches.proofs.next_wanted.Goals as goal
+use Rattle.stretches.proofs.next_wanted.Goals.{In-Some, In-None}
 
-pub loop-m-init : goal.loop-m-init
-loop-m-init c = (search rules, next_none _ _ _ _ _)
+-- the pair is the stretch of its number
+turn : (c : In-Some) →
+    let st = c.args.stretches.now in
+    let m = length c.loop-pair.yielded in
+    (m < stretch_count st) × (stretch_start st m ≡ get_or c.in-Some.pair.now 0 0) × (stretch_length st m ≡ get_or c.in-Some.pair.now 1 0)
+turn c =
+    let l = c.loop-pair in
+    let s = c.into_iter-pair-iterator.result in
+    let all : chunks_exact_rest s ≡ c.args.stretches.now = cc in
+    let two : chunks_exact_size s ≡ 2 = cc in
+    pair_turn _ s l.pair-iterator c.next.new.self _ l.yielded all two l.yielded_by _ c.in-Some.is c.next.ensures.steps
 
-pub overflow_add-stop-in-loop-m : goal.overflow_add-stop-in-loop-m
-unfolding stretch_start stretch_length stretch_count
-overflow_add-stop-in-loop-m c = omega (arith, c.requires.0.ends _ c.loop-m-test.true, c.requires.1)
+-- at the end all have come
+all_come : (c : In-None) → length c.loop-pair.yielded ≡ stretch_count c.args.stretches.now
+all_come c =
+    let l = c.loop-pair in
+    let s = c.into_iter-pair-iterator.result in
+    let all : chunks_exact_rest s ≡ c.args.stretches.now = cc in
+    let two : chunks_exact_size s ≡ 2 = cc in
+    pair_end _ s l.pair-iterator c.next.new.self _ l.yielded all two l.yielded_by c.in-None.is c.next.ensures.steps
 
-pub loop-m-preserved-then-stop-from : goal.loop-m-preserved-then-stop-from
-unfolding stretch_start stretch_length stretch_count
-loop-m-preserved-then-stop-from c = let l = c.loop-m in
-    (search rules, next_skip _ _ _ _ _ _ l.m l.invariant.1 (either _ _ c.if-stop-from.true))
+pub loop-pair-init : goal.loop-pair-init
+loop-pair-init c = next_none _ _ _ _ _
+
+pub overflow_add-stop : goal.overflow_add-stop
+overflow_add-stop c =
+    let t = turn (goal.at.overflow_add-stop c).In-Some in
+    omega (arith, t, c.requires.0.ends _ t.0, c.requires.1)
+
+pub loop-pair-preserved-then-stop-from : goal.loop-pair-preserved-then-stop-from
+loop-pair-preserved-then-stop-from c =
+    let l = c.loop-pair in
+    let a = c.args in
+    let t = turn (goal.at.loop-pair-preserved-then-stop-from c).In-Some in
+    pairs_more (NextUpto a.stretches.now a.modulus a.rest a.from a.most l.found) l.yielded _
+    (next_skip a.stretches.now a.modulus a.rest a.from a.most l.found (length l.yielded) l.invariant (rw (t.1, t.2) (either _ _ c.if-stop-from.true)))
 
 pub leaving-b-requires : goal.leaving-b-requires
-unfolding stretch_start stretch_length stretch_count
-leaving-b-requires c = let p = c.requires in
-    (p.2, p.3, c.later.ensures.2 _ (omega (arith, p.0.ends _ c.loop-m-test.true, p.1)) p.4)
+leaving-b-requires c =
+    let p = c.requires in
+    let t = turn (goal.at.leaving-b-requires c).In-Some in
+    (p.2, p.3, omega (arith, t, p.0.ends _ t.0, p.1, p.4, c.max.ensures))
 
-pub loop-m-preserved : goal.loop-m-preserved
-unfolding stretch_start stretch_length stretch_count
-loop-m-preserved c = let l = c.loop-m in
-    let e = c.later.ensures in
-    (search rules, next_more _ _ _ _ _ _ l.m _ _ _ l.invariant.1 c.leaving-b.ensures e.1 e.0 e.2 c.loop-m-test.true c.earlier-found.ensures)
+pub loop-pair-preserved : goal.loop-pair-preserved
+loop-pair-preserved c =
+    let l = c.loop-pair in
+    let a = c.args in
+    let t = turn (goal.at.loop-pair-preserved c).In-Some in
+    let e = c.max.ensures in
+    pairs_more (NextUpto a.stretches.now a.modulus a.rest a.from a.most c.earlier-found.result) l.yielded _
+    (next_more a.stretches.now a.modulus a.rest a.from a.most l.found (length l.yielded) c.max.result c.leaving-b.result c.earlier-found.result l.invariant c.leaving-b.ensures
+    (omega (arith, e)) (omega (arith, e, t)) (λ z g h. omega (arith, e, t)) t.0 (rw t.1 (rw t.2 c.earlier-found.ensures)))
 
 pub returns : goal.returns
-unfolding stretch_start stretch_length stretch_count
-returns c = next_all _ _ _ _ _ _ c.loop-m.m (omega (arith, c.loop-m.invariant.0, c.loop-m-test.false)) c.loop-m.invariant.1
+returns c = next_all _ _ _ _ _ _ _ (all_come c) c.loop-pair.invariant

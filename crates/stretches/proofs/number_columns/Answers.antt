@@ -1,24 +1,14 @@
 -- `stretches::number_columns` meets its contract. Assumes nothing.
-use mathlib.Core.Path.{◌≡◌, refl}
-use Prim.Native.Nat.{◌-◌}
-use native.Mathlib.Omega.{arith}
-use Rattle.rows.proofs.Rows.{stored_none, stored_more}
-use borrow.Author.Rules.{rules}
+use Rattle.std.proofs.Common.{◌≡◌, ◌+◌, length, length-take, length-drop, ℕ, refl, arith}
+use Rattle.lists.proofs.Stores.{stored_more}
+use Rattle.rows.proofs.Rows.{stored_part}
 use Rattle.stretches.proofs.number_columns.Goals as goal
 
-pub loop-i-init : goal.loop-i-init
-loop-i-init c = (search rules, stored_none _ _ _)
-
 pub loop-i-preserved : goal.loop-i-preserved
-loop-i-preserved c =
-    let l = c.loop-i in
-    (search rules, stored_more c.args.at l.i _ _ l.columns _ l.invariant.1 (omega arith) refl)
-
-pub shape_of-columns : goal.shape_of-columns
-shape_of-columns c = c.loop-i.invariant.1.long
+loop-i-preserved c = let l = c.loop-i in stored_more (λ k x. x ≡ c.args.first + k) l.column-items l.i _ 0 (omega arith) l.invariant refl
 
 pub returns : goal.returns
 returns c =
     let l = c.loop-i in
-    let e : l.i ≡ c.args.count = omega arith in
-    rw (← e) l.invariant.1
+    let n : length l.column-items ≡ c.args.count = omega (arith, length-take {A = ℕ}, length-drop {A = ℕ}) in
+    stored_part _ _ _ _ _ _ (omega arith) (omega arith) n (λ i h. l.invariant i (omega arith))

@@ -1,32 +1,49 @@
 -- `stretches::past_end` meets its contract. Assumes nothing.
-use Rattle.stretches.specs.Stretches.{stretch_start, stretch_length, stretch_count}
-use native.Mathlib.Omega.{arith}
-use Prim.Native.Nat.{◌-◌}
-use Rattle.lists.proofs.Tests.{each_more}
+use Rattle.std.proofs.Common.{◌≡◌, ℕ, ◌<◌, below_more, length, get_or, arith}
+use Rattle.stretches.specs.Stretches.{stretch_count, stretch_start, stretch_length}
 use Rattle.stretches.proofs.Judging.{EndWithin, none_past, one_past}
-use borrow.Author.Rules.{rules}
+use Rattle.std.specs.Slice.Iter.{chunks_exact_rest, chunks_exact_size}
+use Rattle.stretches.proofs.Pairs.{pair_turn, pair_end, pairs_more}
 use Rattle.stretches.proofs.past_end.Goals as goal
+use Rattle.stretches.proofs.past_end.Goals.{In-Some, In-None}
 
-pub loop-m-init : goal.loop-m-init
-loop-m-init c = (search rules, λ x h. absurd (omega arith))
+-- the pair is the stretch of its number
+turn : (c : In-Some) →
+    let st = c.args.stretches.now in
+    let m = length c.loop-pair.yielded in
+    (m < stretch_count st) × (stretch_start st m ≡ get_or c.in-Some.pair.now 0 0) × (stretch_length st m ≡ get_or c.in-Some.pair.now 1 0)
+turn c =
+    let l = c.loop-pair in
+    let s = c.into_iter-pair-iterator.result in
+    let all : chunks_exact_rest s ≡ c.args.stretches.now = cc in
+    let two : chunks_exact_size s ≡ 2 = cc in
+    pair_turn _ s l.pair-iterator c.next.new.self _ l.yielded all two l.yielded_by _ c.in-Some.is c.next.ensures.steps
+
+-- at the end all have come
+all_come : (c : In-None) → length c.loop-pair.yielded ≡ stretch_count c.args.stretches.now
+all_come c =
+    let l = c.loop-pair in
+    let s = c.into_iter-pair-iterator.result in
+    let all : chunks_exact_rest s ≡ c.args.stretches.now = cc in
+    let two : chunks_exact_size s ≡ 2 = cc in
+    pair_end _ s l.pair-iterator c.next.new.self _ l.yielded all two l.yielded_by c.in-None.is c.next.ensures.steps
 
 pub returns-then-len-start : goal.returns-then-len-start
-unfolding stretch_start stretch_length stretch_count
-returns-then-len-start c = let l = c.loop-m in
-    one_past _ _ l.m c.loop-m-test.true (omega (arith, c.if-len-start.true))
+returns-then-len-start c =
+    let t = turn (goal.at.returns-then-len-start c).In-Some in
+    one_past _ _ _ t.0 (omega (arith, t, c.if-len-start.true))
 
 pub returns-then-len-start-2 : goal.returns-then-len-start-2
-unfolding stretch_start stretch_length stretch_count
-returns-then-len-start-2 c = let l = c.loop-m in
-    one_past _ _ l.m c.loop-m-test.true (omega (arith, c.if-len-start-2.true, c.if-len-start.false))
+returns-then-len-start-2 c =
+    let t = turn (goal.at.returns-then-len-start-2 c).In-Some in
+    one_past _ _ _ t.0 (omega (arith, t, c.if-len-start-2.true, c.if-len-start.false))
 
-pub loop-m-preserved : goal.loop-m-preserved
-unfolding stretch_start stretch_length stretch_count
-loop-m-preserved c = let l = c.loop-m in
-    let a = c.args in
-    (search rules, each_more (EndWithin a.stretches.now a.len) l.m l.invariant.1 (omega (arith, c.if-len-start-2.false, c.if-len-start.false)))
+pub loop-pair-preserved : goal.loop-pair-preserved
+loop-pair-preserved c =
+    let l = c.loop-pair in
+    let t = turn (goal.at.loop-pair-preserved c).In-Some in
+    pairs_more (λ n. (m : ℕ) → m < n → EndWithin c.args.stretches.now c.args.len m) l.yielded _
+    (below_more _ _ l.invariant (omega (arith, t, c.if-len-start-2.false, c.if-len-start.false)))
 
 pub returns : goal.returns
-unfolding stretch_start stretch_length stretch_count
-returns c = let l = c.loop-m in
-    none_past _ _ (λ m h. l.invariant.1 m (omega (arith, l.invariant.0, c.loop-m-test.false)))
+returns c = none_past _ _ (λ m h. c.loop-pair.invariant m (omega (arith, all_come c)))

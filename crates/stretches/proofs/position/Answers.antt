@@ -1,36 +1,34 @@
--- `stretches::position` meets its contract. Assumes nothing.
-use mathlib.Core.Logic.{◌≢◌}
+-- `stretches::position` meets its contract: a member of a list stands at its position. Assumes nothing.
+use mathlib.Core.Path.{◌≡◌, refl, sym, ap, ◌∙◌}
+use mathlib.Core.Bool.{cond}
+use mathlib.Core.List.{List}
 use Prim.Native.Nat.{ℕ}
-use Prim.Native.Nat.{◌-◌}
-use mathlib.Core.Path.{ap, ◌∙◌}
 use native.Mathlib.Omega.{arith}
+use borrow.Author.Rules.{rules}
+use borrow.Author.Tests.{tests, lt-ltb}
+use lib.Dec.{eqb}
 use lib.ListN.{get_or}
+use Rattle.std.specs.List.{position_or_len}
+use Rattle.std.specs.Option.{unwrap_or}
+use Rattle.std.proofs.Common.{Some, None}
+use Rattle.std.proofs.lemmas.Iterator.{YieldsList-from_slice}
+use Rattle.std.proofs.lemmas.Iterator.Search.{position_from_yields_List}
+use Rattle.std.proofs.lemmas.List.Recursion.{is_position_or_len}
 use Rattle.lists.specs.Lists.{position}
 use Rattle.lists.proofs.Members.{at_position}
 use Rattle.stretches.proofs.position.Goals as goal
 
-pub loop-i-init : goal.loop-i-init
-loop-i-init c = omega arith
-
-pub offset_bounds-list-i : goal.offset_bounds-list-i
-offset_bounds-list-i c = omega (arith, c.loop-i.invariant, (at_position _ _ c.requires).0)
-
-pub bounds-list-i : goal.bounds-list-i
-bounds-list-i c = omega (arith, c.loop-i.invariant, (at_position _ _ c.requires).0)
-
-pub overflow_add-i : goal.overflow_add-i
-overflow_add-i c = omega (arith, c.loop-i.invariant, (at_position _ _ c.requires).0)
-
-pub loop-i-smaller : goal.loop-i-smaller
-loop-i-smaller c = omega (arith, c.loop-i.invariant, (at_position _ _ c.requires).0)
-
-pub loop-i-preserved : goal.loop-i-preserved
-loop-i-preserved c =
-    let p = at_position _ _ c.requires in
-    omega (arith, c.loop-i.invariant, differs c.loop-i.i c.loop-i-test.true)
-  where
-    differs : (i : ℕ) → get_or c.args.list.now i 0 ≢ c.args.x → i ≢ position c.args.x c.args.list.now
-    differs i h e = h (ap (λ z. get_or c.args.list.now z 0) e ∙ (at_position _ _ c.requires).1)
+-- the position by a test
+by_test : (x : ℕ) (xs : List ℕ) → position x xs ≡ position_or_len (eqb x) xs
+unfolding position
+by_test x xs = is_position_or_len (position x) (eqb x) refl (λ y ys. ap (cond (eqb x y) 0) (omega arith)) xs
 
 pub returns : goal.returns
-returns c = (omega (arith, c.loop-i.invariant, (at_position _ _ c.requires).0), c.loop-i-test.false)
+returns c =
+    let a = c.args in
+    let l = (at_position a.list.now a.x c.requires).0 in
+    let e = by_test a.x a.list.now in
+    let found = position_from_yields_List (eqb a.x) _ _ _ c.position.ensures.ran (YieldsList-from_slice a.list.now cc) (λ x b q k. search (rules, tests)) in
+    let r : c.unwrap_or.result ≡ position a.x a.list.now =
+    c.unwrap_or.ensures ∙ ap (λ o. unwrap_or o 0) (found ∙ ap (λ t. cond t (Some (position_or_len (eqb a.x) a.list.now)) None) (lt-ltb _ _ (rw e at l))) ∙ sym e in
+    (rw r l, ap (λ i. get_or a.list.now i 0) r ∙ (at_position _ _ c.requires).1)

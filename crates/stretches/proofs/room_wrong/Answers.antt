@@ -1,27 +1,49 @@
 -- `stretches::room_wrong` meets its contract. Assumes nothing.
-use Rattle.stretches.specs.Stretches.{stretch_start, stretch_length, stretch_count}
+use Rattle.std.proofs.Common.{◌≡◌, ◌+◌, ◌-◌, ◌<◌, length, get_or, arith}
+use Rattle.stretches.specs.Stretches.{stretch_count, stretch_start, stretch_length, bytes_before}
 use Rattle.stretches.proofs.Judging.{room_more, room_short, room_end}
-use Prim.Native.Nat.{◌-◌}
-use native.Mathlib.Omega.{arith}
-use Rattle.stretches.specs.Stretches.{stretch_count, stretch_length}
 use Rattle.stretches.proofs.Wanted.{before_none}
-use borrow.Author.Rules.{rules}
+use Rattle.std.specs.Slice.Iter.{chunks_exact_rest, chunks_exact_size}
+use Rattle.stretches.proofs.Pairs.{pair_turn, pair_end, pairs_more}
 use Rattle.stretches.proofs.room_wrong.Goals as goal
+use Rattle.stretches.proofs.room_wrong.Goals.{In-Some, In-None}
 
-pub loop-m-init : goal.loop-m-init
-loop-m-init c = (search rules, omega (arith, before_none c.args.stretches.now))
+-- the pair is the stretch of its number
+turn : (c : In-Some) →
+    let st = c.args.stretches.now in
+    let m = length c.loop-pair.yielded in
+    (m < stretch_count st) × (stretch_start st m ≡ get_or c.in-Some.pair.now 0 0) × (stretch_length st m ≡ get_or c.in-Some.pair.now 1 0)
+turn c =
+    let l = c.loop-pair in
+    let s = c.into_iter-pair-iterator.result in
+    let all : chunks_exact_rest s ≡ c.args.stretches.now = cc in
+    let two : chunks_exact_size s ≡ 2 = cc in
+    pair_turn _ s l.pair-iterator c.next.new.self _ l.yielded all two l.yielded_by _ c.in-Some.is c.next.ensures.steps
+
+-- at the end all have come
+all_come : (c : In-None) → length c.loop-pair.yielded ≡ stretch_count c.args.stretches.now
+all_come c =
+    let l = c.loop-pair in
+    let s = c.into_iter-pair-iterator.result in
+    let all : chunks_exact_rest s ≡ c.args.stretches.now = cc in
+    let two : chunks_exact_size s ≡ 2 = cc in
+    pair_end _ s l.pair-iterator c.next.new.self _ l.yielded all two l.yielded_by c.in-None.is c.next.ensures.steps
+
+pub loop-pair-init : goal.loop-pair-init
+loop-pair-init c = omega (arith, before_none c.args.stretches.now)
 
 pub returns-then-left-long : goal.returns-then-left-long
-unfolding stretch_start stretch_length stretch_count
-returns-then-left-long c = let l = c.loop-m in
-    room_short _ _ _ l.m l.invariant.1 c.loop-m-test.true c.if-left-long.true
+returns-then-left-long c =
+    let t = turn (goal.at.returns-then-left-long c).In-Some in
+    room_short _ _ _ _ c.loop-pair.invariant t.0 (omega (arith, t, c.if-left-long.true))
 
-pub loop-m-preserved : goal.loop-m-preserved
-unfolding stretch_start stretch_length stretch_count
-loop-m-preserved c = let l = c.loop-m in
-    (search rules, room_more _ _ _ l.m l.invariant.1 c.if-left-long.false)
+pub loop-pair-preserved : goal.loop-pair-preserved
+loop-pair-preserved c =
+    let l = c.loop-pair in
+    let a = c.args in
+    let t = turn (goal.at.loop-pair-preserved c).In-Some in
+    let e = room_more a.stretches.now a.room l.left _ l.invariant (omega (arith, t, c.if-left-long.false)) in
+    pairs_more (λ n. l.left - get_or c.in-Some.pair.now 1 0 + bytes_before a.stretches.now n ≡ a.room) l.yielded _ (omega (arith, e, t))
 
 pub returns : goal.returns
-unfolding stretch_start stretch_length stretch_count
-returns c = let l = c.loop-m in
-    room_end _ _ _ l.m l.invariant.1 (omega (arith, l.invariant.0, c.loop-m-test.false))
+returns c = room_end _ _ _ _ c.loop-pair.invariant (all_come c)

@@ -1,8 +1,7 @@
 -- `stretches::walk` meets its contract. Assumes nothing.
 use lib.Pow.{pow_pos}
 use mathlib.Core.Path.{◌≡◌, refl, sym, ◌∙◌}
-use mathlib.Core.Bool.{true}
-use Prim.Native.Nat.{◌+◌, ◌-◌, ◌*◌, ◌^◌}
+use Prim.Native.Nat.{◌+◌, ◌*◌, ◌^◌}
 use native.Mathlib.Omega.{arith}
 use Rattle.shape.proofs.Accepted.{shape_accepted}
 use Rattle.rows.proofs.Rows.{low_replicate}

@@ -1,6 +1,6 @@
 -- `tables::entry_rows` meets its contract. Assumes nothing.
 use mathlib.Core.Path.{◌≡◌, refl, ◌∙◌}
-use Prim.Native.Nat.{◌+◌, ◌-◌, ◌*◌, ◌≤◌}
+use Prim.Native.Nat.{◌+◌, ◌*◌, ◌≤◌}
 use native.Mathlib.Omega.{arith}
 use lib.ListN.{length}
 use Rattle.lists.proofs.Members.{rising_below}
@@ -21,7 +21,6 @@ inverses-inverted-requires c =
 
 pub loop-j-init : goal.loop-j-init
 loop-j-init c = (
-  search rules,
   refl,
   λ P col w v. rows_none _ _ c.requires.1 _ _ _ c.requires.4 _ c.requires.5 c.requires.7 _ _ c.inverses-inverted.ensures.0 c.differences-bottoms.ensures
       c.inverses-inverted.ensures.1 P col w v _,
@@ -56,7 +55,7 @@ quotients-requires c =
       search rules,
       search rules,
       c.requires.1,
-      omega (arith, room (goal.at.quotients-requires c).After-differences-tops, l.invariant.1),
+      omega (arith, room (goal.at.quotients-requires c).After-differences-tops, l.invariant.0),
       c.differences-tops.ensures.low,
       c.inverses-inverted.ensures.0,
     )
@@ -64,14 +63,13 @@ quotients-requires c =
 pub loop-j-preserved : goal.loop-j-preserved
 loop-j-preserved c =
     let l = c.loop-j in (
-      search rules,
-      c.quotients.ensures.long ∙ l.invariant.1,
+      c.quotients.ensures.long ∙ l.invariant.0,
       λ P col w v. rows_more _ _ c.requires.1 _ _ _ c.requires.4 _ c.requires.5 c.requires.7 _ _ c.inverses-inverted.ensures.0 c.differences-bottoms.ensures
-          c.inverses-inverted.ensures.1 P col w v l.j _ _ _ _ (omega arith) (l.invariant.2 P col w v) c.differences-tops.ensures c.quotients.ensures,
+          c.inverses-inverted.ensures.1 P col w v l.j _ _ _ _ (omega arith) (l.invariant.1 P col w v) c.differences-tops.ensures c.quotients.ensures,
     )
 
 pub returns : goal.returns
 returns c =
     let l = c.loop-j in
     let e : l.j ≡ length c.args.list.now = omega arith in
-    rw (← e) (l.invariant.1, l.invariant.2)
+    rw (← e) (l.invariant.0, l.invariant.1)

@@ -1,12 +1,8 @@
 -- `tables::point_row` meets its contract. Assumes nothing.
-use Prim.Native.Nat.{◌-◌, ◌≤◌}
+use Rattle.std.proofs.Common.{◌≡◌, ℕ, ◌<◌, cond, get_or}
 use Rattle.lists.specs.Lists.{element}
-use Rattle.rows.specs.Rows.{Stored}
-use Rattle.tables.specs.Tables.{point_of}
+use Rattle.tables.specs.Tables.{point_of, opposite_of}
 use Rattle.tables.proofs.point_row.Given as goal
 
 abbrev pub invariant-loop-t : goal.invariant-loop-t
-invariant-loop-t l = (l.t ≤ l.run) × Stored l.at l.t (point_of (element l.each) l.node) l.initial.out l.out
-
-abbrev pub decreases-loop-t : goal.decreases-loop-t
-decreases-loop-t l = l.run - l.t
+invariant-loop-t l = (k : ℕ) → k < l.t → get_or l.x-items k 0 ≡ cond l.opposite (opposite_of (element l.each) l.node k) (point_of (element l.each) l.node k)

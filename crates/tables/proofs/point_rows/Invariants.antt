@@ -1,11 +1,7 @@
 -- `tables::point_rows` meets its contract. Assumes nothing.
-use Prim.Native.Nat.{◌-◌, ◌≤◌}
 use Rattle.lists.specs.Lists.{element}
 use Rattle.tables.specs.Tables.{node_points, PointRows}
 use Rattle.tables.proofs.point_rows.Given as goal
 
 abbrev pub invariant-loop-node : goal.invariant-loop-node
-invariant-loop-node l = (l.node ≤ l.n) × PointRows l.node (node_points l.n (element l.each)) l.run l.out
-
-abbrev pub decreases-loop-node : goal.decreases-loop-node
-decreases-loop-node l = l.n - l.node
+invariant-loop-node l = PointRows l.node (node_points l.n (element l.each)) l.run l.out

@@ -1,11 +1,6 @@
 -- `transfers::write_line` meets its contract: the numbers from number i on are still to be written, at the place. Assumes nothing.
-use Prim.Native.Nat.{◌-◌, ◌≤◌}
-use lib.ListN.{length}
 use Rattle.transfers.proofs.Lines.{Line}
 use Rattle.transfers.proofs.write_line.Given as goal
 
 abbrev pub invariant-loop-i : goal.invariant-loop-i
-invariant-loop-i l = (l.i ≤ length l.numbers) × Line l.numbers l.initial.text l.at l.i l.text l.place
-
-abbrev pub decreases-loop-i : goal.decreases-loop-i
-decreases-loop-i l = length l.numbers - l.i
+invariant-loop-i l = Line l.numbers l.initial.text l.at l.i l.text l.place

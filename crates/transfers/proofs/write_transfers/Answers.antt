@@ -3,7 +3,6 @@ use mathlib.Core.Path.{◌≡◌}
 use Prim.Native.Nat.{◌+◌, ◌*◌, ◌-◌, ◌≤◌}
 use native.Mathlib.Nat.{mul-le-mul}
 use native.Mathlib.Omega.{arith}
-use borrow.Author.Rules.{rules}
 use lib.ListN.{length}
 use Rattle.shape.specs.Shape.{most_nodes}
 use Rattle.transfers.specs.Plan.{transfers, no_transfer, transfer_line}
@@ -31,7 +30,7 @@ pub overflow_mul-count : goal.overflow_mul-count
 overflow_mul-count c = omega (arith, bounded (goal.at.overflow_mul-count c).Start)
 
 pub loop-e-init : goal.loop-e-init
-loop-e-init c = (search rules, lines_start _ _ _ _)
+loop-e-init c = lines_start _ _ _ _
 
 pub transfer_at-t-requires : goal.transfer_at-t-requires
 transfer_at-t-requires c = let s = (goal.at.transfer_at-t-requires c).Start in (s.requires.0, omega (arith, turns s))
@@ -40,22 +39,19 @@ pub write_line-place-requires : goal.write_line-place-requires
 unfolding transfer_line
 write_line-place-requires c =
     let s = (goal.at.write_line-place-requires c).Start in
-    rw c.transfer_at-t.ensures (lines_room _ no_transfer _ _ _ c.loop-e.e _ _ c.loop-e.invariant.1 (omega (arith, turns s)) s.requires.1)
-
-pub overflow_add-e : goal.overflow_add-e
-overflow_add-e c = omega (arith, bounded (goal.at.overflow_add-e c).Start)
+    rw c.transfer_at-t.ensures (lines_room _ no_transfer _ _ _ c.loop-e.e _ _ c.loop-e.invariant (omega (arith, turns s)) s.requires.1)
 
 pub loop-e-preserved : goal.loop-e-preserved
 unfolding transfer_line
 loop-e-preserved c =
     let s = (goal.at.loop-e-preserved c).Start in
     let w = rw c.transfer_at-t.ensures at c.write_line-place.ensures in
-    (search rules, lines_step _ no_transfer _ _ _ c.loop-e.e _ _ c.loop-e.invariant.1 _ _ (omega (arith, turns s)) w)
+    lines_step _ no_transfer _ _ _ c.loop-e.e _ _ c.loop-e.invariant _ _ (omega (arith, turns s)) w
 
 pub shape_of-text : goal.shape_of-text
-shape_of-text c = c.loop-e.invariant.1.long
+shape_of-text c = c.loop-e.invariant.long
 
 pub returns : goal.returns
 returns c =
     let s = (goal.at.returns c).Start in
-    lines_done _ no_transfer _ _ _ c.loop-e.e _ _ c.loop-e.invariant.1 (omega (arith, turns s))
+    lines_done _ no_transfer _ _ _ c.loop-e.e _ _ c.loop-e.invariant (omega (arith, turns s))

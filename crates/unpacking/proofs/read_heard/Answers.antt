@@ -3,21 +3,21 @@ use mathlib.Core.Path.{sym, ◌∙◌}
 use Rattle.numbers.proofs.Places.{number_inside}
 use Rattle.card.proofs.Heading.{front_bad, led_bad, Led, led_read, last_bad, last_read}
 use Rattle.unpacking.proofs.read_heard.Goals as goal
-use Rattle.unpacking.proofs.read_heard.Goals.{In-Read}
+use Rattle.unpacking.proofs.read_heard.Goals.{In_ok-plain}
 
 pub read_plain-requires : goal.read_plain-requires
 read_plain-requires c = number_inside _ _ _ _ _ c.requires
 
-pub returns-in_default : goal.returns-in_default
-returns-in_default c = front_bad _ (led_bad _ _ c.requires _ (sym c.read_plain.ensures ∙ c.in_default.is))
+pub returns-in_err-plain : goal.returns-in_err-plain
+returns-in_err-plain c = c.from_residual.ensures ∙ front_bad _ (led_bad _ _ c.requires (sym c.read_plain.ensures ∙ c.in_err-plain.was))
 
 -- the five were read
-plain : (c : In-Read) →
-    Led c.args.card.now c.args.start c.requires c.in-Read.plain c.in-Read.at
-plain c = led_read _ _ c.requires _ _ _ (sym c.read_plain.ensures ∙ c.in-Read.is)
+plain : (c : In_ok-plain) → Led c.args.card.now c.args.start c.requires c.in_ok-plain.plain.header c.in_ok-plain.plain.next
+plain c = led_read _ _ c.requires _ _ _ (sym c.read_plain.ensures ∙ c.in_ok-plain.was)
 
-pub returns-in_default-read_number : goal.returns-in_default-read_number
-returns-in_default-read_number c = front_bad _ (last_bad _ _ _ _ _ (plain (goal.at.returns-in_default-read_number c).In-Read) (sym c.read_number.ensures ∙ c.in_default-read_number.is))
+pub returns-in_err-hearing : goal.returns-in_err-hearing
+returns-in_err-hearing c =
+    c.from_residual-in_err-hearing.ensures ∙ front_bad _ (last_bad _ _ _ _ _ (plain (goal.at.returns-in_err-hearing c).In_ok-plain) (sym c.read_number.ensures ∙ c.in_err-hearing.was))
 
 pub returns : goal.returns
-returns c = last_read _ _ _ _ _ (plain (goal.at.returns c).In-Read) _ _ (sym c.read_number.ensures ∙ c.in-Read-read_number.is)
+returns c = last_read _ _ _ _ _ (plain (goal.at.returns c).In_ok-plain) _ _ (sym c.read_number.ensures ∙ c.in_ok-hearing.was)

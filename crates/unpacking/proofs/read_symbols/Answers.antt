@@ -1,44 +1,39 @@
--- `unpacking::read_symbols` meets its contract: what was read is in the buffer up to symbol i, and the rest can be read at the place.
-use mathlib.Core.Path.{refl, sym, ap, ◌∙◌}
+-- `unpacking::read_symbols` meets its contract: what was read is in the buffer up to a symbol, and the rest can be read at the place.
+use mathlib.Core.Path.{sym, ap, ◌∙◌}
 use mathlib.Core.List.{◌++◌, append-nil}
-use Prim.Native.Nat.{◌-◌}
 use native.Mathlib.Nat.{sub-zero}
 use native.Mathlib.Omega.{arith}
-use borrow.Author.Rules.{rules}
-use lib.ListN.{length, take, length-set}
+use lib.ListN.{length, take}
 use lib.Seq.{take_all}
 use Rattle.lists.proofs.Buffers.{take_more}
 use Rattle.shape.specs.Shape.{symbol_values}
 use Rattle.card.proofs.Reading.{symbols_good, scan_kept, kept_never, kept_end}
 use Rattle.unpacking.proofs.read_symbols.Goals as goal
 
-pub loop-i-init : goal.loop-i-init
-loop-i-init c = (search rules, refl, rw sub-zero (symbols_good _ _ _ c.requires), rw sub-zero)
+pub loop-symbol-init : goal.loop-symbol-init
+loop-symbol-init c = (rw sub-zero (symbols_good _ _ _ c.requires), rw sub-zero)
 
 pub returns-in_default : goal.returns-in_default
 returns-in_default c =
-    let l = c.loop-i in
-    absurd (kept_never _ _ _ _ l.i (omega arith) (sym c.read_number.ensures ∙ c.in_default.is) l.invariant.2)
+    let l = c.loop-symbol in
+    absurd (kept_never _ _ _ _ l.symbol-index (omega arith) (sym c.read_number.ensures ∙ c.in_default.is) l.invariant.0)
 
-pub overflow_cast-symbols : goal.overflow_cast-symbols
-overflow_cast-symbols c =
-    let l = c.loop-i in
+pub overflow_cast-symbol : goal.overflow_cast-symbol
+overflow_cast-symbol c =
+    let l = c.loop-symbol in
     let n = length c.args.symbols.now in
-    omega (arith, (scan_kept _ _ _ n l.i _ _ (omega arith) (sym c.read_number.ensures ∙ c.in-Read.is) l.invariant.2).small)
+    omega (arith, (scan_kept _ _ _ n l.symbol-index _ _ (omega arith) (sym c.read_number.ensures ∙ c.in-Some.is) l.invariant.0).small)
 
-pub loop-i-preserved : goal.loop-i-preserved
-loop-i-preserved c =
-    let l = c.loop-i in
+pub loop-symbol-preserved : goal.loop-symbol-preserved
+loop-symbol-preserved c =
+    let l = c.loop-symbol in
+    let i = l.symbol-index in
     let n = length c.args.symbols.now in
-    let kept = scan_kept _ _ _ n l.i _ _ (omega arith) (sym c.read_number.ensures ∙ c.in-Read.is) l.invariant.2 in (
-      search rules,
-      length-set l.symbols l.i _ ∙ l.invariant.1,
-      kept.rest,
-      l.invariant.3 ∙ ap (λ t. take l.i l.symbols ++ t) kept.first ∙ take_more l.symbols l.i _ _ (omega arith),
-    )
+    let kept = scan_kept _ _ _ n i _ _ (omega arith) (sym c.read_number.ensures ∙ c.in-Some.is) l.invariant.0 in
+    (kept.rest, l.invariant.1 ∙ ap (λ t. take i l.symbols ++ t) kept.first ∙ take_more l.symbols i _ _ (omega arith))
 
 pub returns : goal.returns
 returns c =
-    let l = c.loop-i in
+    let l = c.loop-symbol in
     let n = length c.args.symbols.now in
-    sym (l.invariant.3 ∙ rw (kept_end symbol_values _ l.at n l.i (omega arith), take_all l.i l.symbols (omega arith)) (append-nil l.symbols))
+    sym (l.invariant.1 ∙ rw (kept_end symbol_values _ l.at n l.symbol-index (omega arith), take_all l.symbol-index l.symbols (omega arith)) (append-nil l.symbols))

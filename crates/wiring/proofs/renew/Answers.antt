@@ -1,5 +1,5 @@
 -- `wiring::renew` meets its contract: the second steps of the ranks passed are done. Assumes nothing.
-use mathlib.Core.Path.{◌≡◌, refl, ap, ◌∙◌}
+use mathlib.Core.Path.{◌≡◌, ap, ◌∙◌}
 use mathlib.Core.List.{List}
 use Prim.Native.Nat.{ℕ, ◌+◌, ◌-◌, ◌*◌, ◌≤◌, ◌<◌}
 use native.Mathlib.Nat.{mul-le-mul}
@@ -13,29 +13,15 @@ use Rattle.wiring.specs.Wires.{from_others}
 use Rattle.classes.proofs.Layouts.{ready_dead, node_high, bounded, share_high}
 use Rattle.lists.proofs.Parts.{row_within, piece_part}
 use Rattle.wiring.proofs.OnWire.{Room, wire_room, lent_others}
-use Rattle.wiring.proofs.Ranked.{renewing_none, renewing_own, renewing_more, renewing_end, recovers_as}
+use Rattle.wiring.proofs.Ranked.{renewing_own, renewing_more, renewing_end, recovers_as}
 use Rattle.wiring.proofs.renew.Goals as goal
 use Rattle.wiring.proofs.renew.Goals.{In-loop-u, Start}
-
-pub size-full-requires : goal.size-full-requires
-size-full-requires c = c.requires.0.shaped
 
 room : (c : Start) → Room c.args.dead.now c.args.g c.args.told 0
 room c = wire_room c.requires.0 _ 0 c.requires.1 c.requires.0.some
 
 pub overflow_mul-base : goal.overflow_mul-base
 overflow_mul-base c = let r = room (goal.at.overflow_mul-base c).Start in omega (arith, r.short)
-
-pub overflow_sub-part : goal.overflow_sub-part
-overflow_sub-part c = c.requires.0.some
-
-pub overflow_mul-part : goal.overflow_mul-part
-overflow_mul-part c =
-    let R = c.requires.0 in
-    rw R.share_is (omega (arith, mul-le-mul {n₁ = length c.args.dead.now - 1} {n₂ = most_nodes} {m₂ = most_size} (omega (arith, (bounded R).dead_high)) (share_high R)))
-
-pub loop-u-init : goal.loop-u-init
-loop-u-init c = (omega arith, refl, renewing_none _ _ _ _, refl)
 
 -- the rank's node and its messages are within their buffers
 within : (c : In-loop-u) →
@@ -58,8 +44,8 @@ within c =
     let H = length a.dead.now in
     let M = message_size a.g.shape a.dead.now in
     let m : H * (H - 1) * M ≤ most_nodes * most_nodes * most_size = mul-le-mul {n₂ = most_nodes * most_nodes} {m₂ = most_size} (mul-le-mul {n₂ = most_nodes} {m₂ = most_nodes} (omega (arith, (bounded R).dead_high)) (omega (arith, (bounded R).dead_high))) (share_high R) in (
-      rw (c.size-full.ensures, l.invariant.2.long, st.requires.2) (row_within _ _ _ i_low),
-      omega (arith, l.invariant.2.long, st.requires.2, mul-le-mul h.n_high h.size_high),
+      rw (c.size-full.ensures, l.invariant.0.long, st.requires.2) (row_within _ _ _ i_low),
+      omega (arith, l.invariant.0.long, st.requires.2, mul-le-mul h.n_high h.size_high),
       rw (st.requires.3, R.share_is, ← r.all) (omega (arith, row_within H ((H - 1) * M) l.u u_low)),
       omega (arith, st.requires.3, r.all, r.short, m),
     )
@@ -69,9 +55,6 @@ overflow_mul-at c = omega (arith, within (goal.at.overflow_mul-at c).In-loop-u)
 
 pub overflow_add-end : goal.overflow_add-end
 overflow_add-end c = omega (arith, within (goal.at.overflow_add-end c).In-loop-u)
-
-pub overflow_mul-from : goal.overflow_mul-from
-overflow_mul-from c = omega (arith, within (goal.at.overflow_mul-from c).In-loop-u)
 
 pub overflow_add-from : goal.overflow_add-from
 overflow_add-from c = omega (arith, within (goal.at.overflow_add-from c).In-loop-u)
@@ -118,7 +101,7 @@ recover-requires c =
     let l = i.loop-u in
     let w = within i in
     let e = i.requires.0.share_is in
-    let h : l.u < length i.args.dead.now = omega arith in record { ready = (i.requires.0, omega arith, omega (arith, i.requires.5, l.invariant.3)); received_len = (simp (length-take, length-drop) (omega (arith, w, ap (λ z. (length i.args.dead.now - 1) * z) e)), simp (length-take, length-drop) (omega (arith, w, i.size-full.ensures))); low = (rw (lent i).0 (i.requires.4.received l.u h), rw ((lent i).1 ∙ renewing_own _ _ (ready_dead i.requires.0) l.u h _ _ _ l.invariant.2) (i.requires.4.own l.u h)) }
+    let h : l.u < length i.args.dead.now = omega arith in record { ready = (i.requires.0, omega arith, omega (arith, i.requires.5, l.invariant.1)); received_len = (simp (length-take, length-drop) (omega (arith, w, ap (λ z. (length i.args.dead.now - 1) * z) e)), simp (length-take, length-drop) (omega (arith, w, i.size-full.ensures))); low = (rw (lent i).0 (i.requires.4.received l.u h), rw ((lent i).1 ∙ renewing_own _ _ (ready_dead i.requires.0) l.u h _ _ _ l.invariant.0) (i.requires.4.own l.u h)) }
 
 pub loop-u-preserved : goal.loop-u-preserved
 unfolding node
@@ -130,13 +113,11 @@ loop-u-preserved c =
     let i = (goal.at.loop-u-preserved c).In-loop-u in
     let last : List ℕ = c.recover.new.symbols in
     let long : length last ≡ size a.g.shape = c.recover.auto.symbols ∙ simp (length-take, length-drop) (omega (arith, within i, e)) in (
-      omega arith,
-      refl,
       rw e
-          (renewing_more a.g.shape a.dead.now (ready_dead R) l.u (omega arith) a.nodes.now l.nodes a.wire.now last c.requires.2 long l.invariant.2
+          (renewing_more a.g.shape a.dead.now (ready_dead R) l.u (omega arith) a.nodes.now l.nodes a.wire.now last c.requires.2 long l.invariant.0
           (recovers_as _ _ _ _ _ _ _ _ (lent i).0 (lent i).1 c.recover.ensures)),
-      c.recover.auto.table ∙ l.invariant.3,
+      c.recover.auto.table ∙ l.invariant.1,
     )
 
 pub returns : goal.returns
-returns c = let l = c.loop-u in renewing_end _ _ l.u _ _ _ (omega arith) l.invariant.2
+returns c = let l = c.loop-u in renewing_end _ _ l.u _ _ _ (omega arith) l.invariant.0

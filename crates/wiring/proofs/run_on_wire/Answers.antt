@@ -53,9 +53,6 @@ gather-sent-requires c =
     let H = helped (goal.at.gather-sent-requires c).Start in
     ((bounded R).n_high, H.rises, c.requires.run_fits.0, rw R.share_is c.requires.run_fits.1, H.long ∙ ap₂ ◌*◌ (sym H.count) (sym R.share_is))
 
-pub slice_bounds-put_entry-end : goal.slice_bounds-put_entry-end
-slice_bounds-put_entry-end c = sym c.gather-sent.ensures.long
-
 pub put_entry-requires : goal.put_entry-requires
 unfolding node
 put_entry-requires c =
@@ -63,17 +60,11 @@ put_entry-requires c =
     let R = c.requires.ready.0 in
     (entry_summable R _ _ _ (helped (goal.at.put_entry-requires c).Start) _ _ p.0 p.1 _ _ p.2 c.gather-sent.ensures _ (omega (arith, node_high R _ c.requires.ready.1)), rw c.requires.ready.3 (own_places (ready_dead R) _ c.requires.ready.1 0 _ _ _ _ p.3.ones_long (omega arith) p.1 p.3.one))
 
-pub slice_bounds-put_entry-end-2 : goal.slice_bounds-put_entry-end-2
-slice_bounds-put_entry-end-2 c = sym c.gather-sent.ensures.long
-
 pub put_entry-requires-2 : goal.put_entry-requires-2
 put_entry-requires-2 c =
     let p = c.requires.run_fits in
     let R = c.requires.ready.0 in
     (entry_summable R _ _ _ (helped (goal.at.put_entry-requires-2 c).Start) _ _ p.0 p.1 _ _ p.2 c.gather-sent.ensures _ (omega arith), rw (c.put_entry.ensures.long, c.requires.ready.3) (own_places (ready_dead R) _ c.requires.ready.1 1 _ _ _ _ p.3.others_long (omega arith) p.1 p.3.other))
-
-pub slice_bounds-hand_out-end : goal.slice_bounds-hand_out-end
-slice_bounds-hand_out-end c = sym c.gather-sent.ensures.long
 
 pub offset_bounds-wire-base : goal.offset_bounds-wire-base
 offset_bounds-wire-base c = let r = room (goal.at.offset_bounds-wire-base c).Start in omega (arith, r.short)
@@ -91,9 +82,6 @@ hand_out-requires c =
     let p = st.requires.run_fits in
     let R = st.requires.ready.0 in
     record { ready = (R, st.requires.ready.1, p.0, p.1, rank_summable R _ _ _ (helped (goal.at.hand_out-requires c).Start) _ _ p.0 p.1 _ _ p.2 c.gather-sent.ensures); out_len = simp (length-take, length-drop) (omega (arith, st.requires.ready.4.long, (room st).all)) }
-
-pub shape_of-part : goal.shape_of-part
-shape_of-part c = c.put_entry-2.ensures.long ∙ c.put_entry.ensures.long
 
 pub returns : goal.returns
 unfolding node

@@ -1,31 +1,14 @@
 -- `writing::store_transcript` meets its contract. Assumes nothing.
-use mathlib.Core.Path.{◌≡◌, refl}
-use Prim.Native.Nat.{◌-◌}
-use native.Mathlib.Omega.{arith}
-use borrow.Author.Rules.{rules}
-use lib.ListN.{length}
-use Rattle.rows.proofs.Rows.{stored_none, stored_front}
+use Rattle.std.proofs.Common.{◌≡◌, length, length-take, get_or, ℕ, arith}
+use Rattle.lists.proofs.Stores.{stored_more}
+use Rattle.rows.proofs.Rows.{stored_part}
 use Rattle.writing.proofs.store_transcript.Goals as goal
 
-pub loop-b-init : goal.loop-b-init
-loop-b-init c = (search rules, refl, stored_none _ _ _)
-
-pub overflow_cast-nodes : goal.overflow_cast-nodes
-overflow_cast-nodes c = omega (arith, c.type_inv.transcript c.loop-b.b)
-
-pub bounds-nodes-b : goal.bounds-nodes-b
-bounds-nodes-b c = omega (arith, c.loop-b.invariant.2.long, c.requires)
-
 pub loop-b-preserved : goal.loop-b-preserved
-loop-b-preserved c =
-    let l = c.loop-b in
-    (search rules, refl, stored_front l.b _ _ l.nodes _ l.invariant.2 (omega (arith, c.requires)) refl)
-
-pub shape_of-nodes : goal.shape_of-nodes
-shape_of-nodes c = c.loop-b.invariant.2.long
+loop-b-preserved c = let l = c.loop-b in stored_more (λ k x. x ≡ get_or c.args.transcript.now k 0) l.symbol-items l.b _ 0 (omega arith) l.invariant c.from.ensures
 
 pub returns : goal.returns
 returns c =
     let l = c.loop-b in
-    let e : l.b ≡ length c.args.transcript.now = omega arith in
-    rw (← e) l.invariant.2
+    let n : length l.symbol-items ≡ length c.args.transcript.now = omega (arith, length-take {A = ℕ}) in
+    stored_part _ _ _ _ _ _ (omega arith) (omega arith) n (λ i h. l.invariant i (omega arith))

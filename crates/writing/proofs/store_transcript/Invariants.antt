@@ -1,13 +1,6 @@
 -- `writing::store_transcript` meets its contract. Assumes nothing.
-use mathlib.Core.Path.{◌≡◌}
-use Prim.Native.Nat.{◌-◌, ◌≤◌}
-use lib.ListN.{length}
-use Rattle.lists.specs.Lists.{element}
-use Rattle.rows.specs.Rows.{Stored}
+use Rattle.std.proofs.Common.{◌≡◌, ℕ, ◌<◌, get_or}
 use Rattle.writing.proofs.store_transcript.Given as goal
 
 abbrev pub invariant-loop-b : goal.invariant-loop-b
-invariant-loop-b l = (l.b ≤ length l.transcript) × (l.b-end ≡ length l.transcript) × Stored 0 l.b (element l.transcript) l.initial.nodes l.nodes
-
-abbrev pub decreases-loop-b : goal.decreases-loop-b
-decreases-loop-b l = length l.transcript - l.b
+invariant-loop-b l = (k : ℕ) → k < l.b → get_or l.symbol-items k 0 ≡ get_or l.transcript k 0

@@ -1,5 +1,5 @@
 -- `writing::write_all` meets its contract. Assumes nothing.
-use mathlib.Core.Path.{◌≡◌, refl, sym, ap, ◌∙◌}
+use mathlib.Core.Path.{◌≡◌, sym, ap, ◌∙◌}
 use Prim.Native.Nat.{ℕ, ◌+◌, ◌*◌, ◌≤◌, ◌<◌}
 use native.Mathlib.Nat.{mul-le-mul_right, mul-le-mul}
 use native.Mathlib.Omega.{arith}
@@ -95,4 +95,4 @@ shape_of-nodes c =
 pub returns : goal.returns
 unfolding written
 returns c =
-    (refl, filled (goal.at.returns c).After-slice_known-1 _ (rw c.size.ensures at c.store_data.ensures) _ (rw (c.node_numbers-all.ensures.1 _ (few (goal.at.returns c).After-slice_known-1)) at c.fill.ensures))
+    filled (goal.at.returns c).After-slice_known-1 _ (rw c.size.ensures at c.store_data.ensures) _ (rw (c.node_numbers-all.ensures.1 _ (few (goal.at.returns c).After-slice_known-1)) at c.fill.ensures)
