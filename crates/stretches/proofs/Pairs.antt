@@ -41,11 +41,14 @@ left (p ∷ ps) s t two y =
       },
     )
 
+-- p is the stretch of number m of a list
+abbrev pub IsStretch : List ℕ → ℕ → List ℕ → Type 0
+IsStretch st m p = (m < stretch_count st) × (stretch_start st m ≡ get_or p 0 0) × (stretch_length st m ≡ get_or p 1 0)
+
 -- The facts of an iteration of such a loop, after the pairs that came before: st is the list, s the iterator at the start.
 module _ (st : List ℕ) (s t u : ChunksExact ℕ) (r : Option (Bor (List ℕ))) (ps : List (Bor (List ℕ))) (all : chunks_exact_rest s ≡ st) (two : chunks_exact_size s ≡ 2) (y : Yields Steps s ps t) where
   -- this iteration's pair is the stretch of its number
-  pub pair_turn : (p : Bor (List ℕ)) → r ≡ Some p → Steps t r u
-      → (length ps < stretch_count st) × (stretch_start st (length ps) ≡ get_or p.now 0 0) × (stretch_length st (length ps) ≡ get_or p.now 1 0)
+  pub pair_turn : (p : Bor (List ℕ)) → r ≡ Some p → Steps t r u → IsStretch st (length ps) p.now
   unfolding stretch_count stretch_start stretch_length
   pair_turn p e h =
       let w = left ps s t two y in

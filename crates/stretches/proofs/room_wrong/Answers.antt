@@ -1,33 +1,19 @@
 -- `stretches::room_wrong` meets its contract. Assumes nothing.
-use Rattle.std.proofs.Common.{◌≡◌, ◌+◌, ◌-◌, ◌<◌, length, get_or, arith}
-use Rattle.stretches.specs.Stretches.{stretch_count, stretch_start, stretch_length, bytes_before}
+use Rattle.std.proofs.Common.{◌≡◌, ◌+◌, ◌-◌, length, get_or, arith}
+use Rattle.stretches.specs.Stretches.{stretch_count, bytes_before}
 use Rattle.stretches.proofs.Judging.{room_more, room_short, room_end}
 use Rattle.stretches.proofs.Wanted.{before_none}
-use Rattle.std.specs.Slice.Iter.{chunks_exact_rest, chunks_exact_size}
-use Rattle.stretches.proofs.Pairs.{pair_turn, pair_end, pairs_more}
+use Rattle.stretches.proofs.Pairs.{IsStretch, pair_turn, pair_end, pairs_more}
 use Rattle.stretches.proofs.room_wrong.Goals as goal
 use Rattle.stretches.proofs.room_wrong.Goals.{In-Some, In-None}
 
 -- the pair is the stretch of its number
-turn : (c : In-Some) →
-    let st = c.args.stretches.now in
-    let m = length c.loop-pair.yielded in
-    (m < stretch_count st) × (stretch_start st m ≡ get_or c.in-Some.pair.now 0 0) × (stretch_length st m ≡ get_or c.in-Some.pair.now 1 0)
-turn c =
-    let l = c.loop-pair in
-    let s = c.into_iter-pair-iterator.result in
-    let all : chunks_exact_rest s ≡ c.args.stretches.now = cc in
-    let two : chunks_exact_size s ≡ 2 = cc in
-    pair_turn _ s l.pair-iterator c.next.new.self _ l.yielded all two l.yielded_by _ c.in-Some.is c.next.ensures.steps
+turn : (c : In-Some) → IsStretch c.args.stretches.now (length c.loop-pair.yielded) c.in-Some.pair.now
+turn c = let l = c.loop-pair in pair_turn c.args.stretches.now c.into_iter-pair-iterator.result l.pair-iterator c.next.new.self _ l.yielded (cc) (cc) l.yielded_by _ c.in-Some.is c.next.ensures.steps
 
 -- at the end all have come
 all_come : (c : In-None) → length c.loop-pair.yielded ≡ stretch_count c.args.stretches.now
-all_come c =
-    let l = c.loop-pair in
-    let s = c.into_iter-pair-iterator.result in
-    let all : chunks_exact_rest s ≡ c.args.stretches.now = cc in
-    let two : chunks_exact_size s ≡ 2 = cc in
-    pair_end _ s l.pair-iterator c.next.new.self _ l.yielded all two l.yielded_by c.in-None.is c.next.ensures.steps
+all_come c = let l = c.loop-pair in pair_end c.args.stretches.now c.into_iter-pair-iterator.result l.pair-iterator c.next.new.self _ l.yielded (cc) (cc) l.yielded_by c.in-None.is c.next.ensures.steps
 
 pub loop-pair-init : goal.loop-pair-init
 loop-pair-init c = omega (arith, before_none c.args.stretches.now)
