@@ -14,10 +14,10 @@ ghost use Rattle.lists.specs.Lists.{member, position, rising};
 use shape::{MOST_NODES, Shape, batch, two_to};
 
 // The most members of a class, those of a layer.
-const MEMBERS: usize = 1 << MOST_NODES;
+pub const MEMBERS: usize = 1 << MOST_NODES;
 
 // The places of a small shape's layer: a table of MEMBERS takes as long to clear as its work.
-const FEW: usize = 256;
+pub const FEW: usize = 256;
 
 // What the shape and the dead nodes fix, worked out once for each call.
 #[derive(Clone, Copy)]

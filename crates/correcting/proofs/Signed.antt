@@ -16,6 +16,11 @@ use Rattle.correcting.specs.Signed.{to_residue, is_change, is_byte, change_bad, 
 
 -- ---- the tests, as a machine makes them
 
+pub below_range : (x : ℕ) (z : ℤ) → lt_z z (negsuc 254) ≡ true → change_bad x z ≡ true
+unfolding change_bad is_change
+below_range x (pos n) e = absurd (false≢true e)
+below_range x (negsuc n) e = ap (λ b. not (b && is_byte (pos x +ℤ negsuc n))) (le-ltb (suc n) 256 (omega (arith, ltb-true 254 n e)))
+
 -- the test of the range, as the comparisons of its two ends
 pub range_tested : (z : ℤ)
     → (is_le (cond (lt_z (negsuc 254) z) Less (cond (lt_z z (negsuc 254)) Greater Equal)) && is_le (cond (lt_z z (pos 255)) Less (cond (lt_z (pos 255) z) Greater Equal))) ≡ is_change z

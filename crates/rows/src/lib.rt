@@ -86,5 +86,8 @@ pub fn copy(count: usize, symbols: &[u16], s: usize, at: usize, out: &mut [u16])
     requires { (s + count ≤ length symbols.now) × (at + count ≤ length out.old) }
     ensures { Stored at count (copied symbols.now s) out.old out.new }
 {
-    out[at..at + count].copy_from_slice(&symbols[s..s + count]);
+    // A loop: by `copy_from_slice` the library for C would need memmove from outside as well.
+    for (i, symbol) in out[at..at + count].iter_mut().enumerate() {
+        *symbol = symbols[s + i];
+    }
 }
